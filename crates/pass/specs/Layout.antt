@@ -1,0 +1,58 @@
+-- What a frame is: its parts, the trailer that points back over them, the limits. Assumes nothing.
+use mathlib.Core.Bool.{Bool, _&&_, true}
+use mathlib.Core.List.{List, [], _∷_, _++_}
+use mathlib.Core.Path.{_≡_}
+use Prim.Native.Nat.{ℕ, _+_, _/_, _%_, _≤_}
+use lib.Dec.{eqb, leb}
+use lib.ListN.{length}
+use Rattle.wire.specs.Kinds.{kindNumber, blockLen}
+use Rattle.wire.specs.Limits.{nonceMax, headerMax, messageMax, isTagLen}
+use Rattle.wire.specs.declared.kind.Kind.{Kind}
+use Rattle.wire.specs.declared.kind.Kind.the-variants.{Idle, Sealed}
+use Rattle.pass.specs.declared.trailer.Trailer.{Trailer}
+
+-- the parts of a frame, in their order; an idle frame has fill for a body and nothing else
+pub record Parts : Type 0 where
+  pub kind : Kind
+  pub nonce : List ℕ
+  pub header : List ℕ
+  pub body : List ℕ
+  pub tag : List ℕ
+
+-- the trailer's eight bytes: two-byte lengths have the high byte first, and A7 is the mark
+abbrev pub trailerBytes : Trailer → List ℕ
+trailerBytes t =
+    t .nonce ∷ t .tag ∷ t .header / 256 ∷ t .header % 256 ∷ t .body / 256 ∷ t .body % 256 ∷ kindNumber (t .kind) ∷ 0xA7 ∷ []
+
+abbrev pub span : Trailer → ℕ
+span t = t .nonce + t .header + t .body + t .tag
+
+abbrev pub lengths : Parts → Trailer
+lengths p =
+    record {
+      kind = p .kind;
+      nonce = length (p .nonce);
+      tag = length (p .tag);
+      header = length (p .header);
+      body = length (p .body);
+    }
+
+abbrev pub encoded : Parts → List ℕ
+encoded p = p .nonce ++ (p .header ++ (p .body ++ (p .tag ++ trailerBytes (lengths p))))
+
+-- an idle frame has 00 in the first four bytes of its trailer
+abbrev pub takes : Kind → Trailer → Bool
+takes Idle t = eqb (t .nonce) 0 && (eqb (t .tag) 0 && eqb (t .header) 0)
+takes (Sealed s) t = isTagLen (blockLen s) (t .tag)
+
+abbrev pub withinLimits : Trailer → Bool
+withinLimits t = leb (t .header) headerMax && (leb (t .body) messageMax && takes (t .kind) t)
+
+pub record Lawful (p : Parts) : Type 0 where
+  pub nonce : length (p .nonce) ≤ nonceMax
+  pub limits : withinLimits (lengths p) ≡ true
+
+-- a file that is these frames end to end, the last of them first
+pub data EndToEnd : List ℕ → List Parts → Type 0 where
+  none : EndToEnd [] []
+  before : {rest : List ℕ} {ps : List Parts} (p : Parts) → Lawful p → EndToEnd rest ps → EndToEnd (rest ++ encoded p) (p ∷ ps)

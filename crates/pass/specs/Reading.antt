@@ -1,0 +1,77 @@
+-- What is read before a point of a pass file, by the checks in their order. Assumes nothing.
+use mathlib.Core.Bool.{cond}
+use mathlib.Core.List.{List, [], _∷_, _++_}
+use mathlib.Core.Path.{_≡_}
+use Prim.Native.Nat.{ℕ, _+_, _-_, _*_, _≤_}
+use lib.Dec.{eqb, leb, ltb}
+use lib.ListN.{length, getD, take, drop}
+use Rattle.std.specs.declared.option.Option.{Option}
+use Rattle.std.specs.declared.option.Option.the-variants.{Some, None}
+use Rattle.std.specs.declared.result.Result.{Result}
+use Rattle.std.specs.declared.result.Result.the-variants.{Ok, Err}
+use Rattle.wire.specs.Kinds.{kindOf}
+use Rattle.wire.specs.Limits.{nonceMax}
+use Rattle.wire.specs.declared.kind.Kind.{Kind}
+use Rattle.wire.specs.declared.fault.Cause.{Cause}
+use Rattle.wire.specs.declared.fault.Cause.the-variants.{Short, NoMark, UnknownKind, OverLimit, Overrun}
+use Rattle.pass.specs.declared.trailer.Trailer.{Trailer}
+use Rattle.pass.specs.Layout.{Parts, trailerBytes, span, withinLimits, encoded, Lawful}
+
+-- the k-th byte from the end
+abbrev pub back : List ℕ → ℕ → ℕ
+back bs k = getD bs (length bs - k) 0
+
+abbrev pub fieldsOf : List ℕ → Option Kind → Result Trailer Cause
+fieldsOf bs None = Err UnknownKind
+fieldsOf bs (Some k) =
+    Ok
+    (record {
+      kind = k;
+      nonce = back bs 8;
+      tag = back bs 7;
+      header = back bs 6 * 256 + back bs 5;
+      body = back bs 4 * 256 + back bs 3;
+    })
+
+abbrev pub trailerOf : List ℕ → Result Trailer Cause
+trailerOf bs = cond (ltb (length bs) 8) (Err Short) (cond (eqb (back bs 1) 0xA7) (fieldsOf bs (kindOf (back bs 2))) (Err NoMark))
+
+-- the last eight bytes are this trailer's
+pub record Ends (bs : List ℕ) (t : Trailer) : Type 0 where
+  pub long : 8 ≤ length bs
+  pub nonce : t .nonce ≤ nonceMax
+  pub bytes : bs ≡ take (length bs - 8) bs ++ trailerBytes t
+
+-- the parts that a trailer points back over
+abbrev pub partsAt : Trailer → List ℕ → Parts
+partsAt t ps =
+    record {
+      kind = t .kind;
+      nonce = take (t .nonce) ps;
+      header = take (t .header) (drop (t .nonce) ps);
+      body = take (t .body) (drop (t .header) (drop (t .nonce) ps));
+      tag = drop (t .body) (drop (t .header) (drop (t .nonce) ps));
+    }
+
+-- a frame, and the bytes before it
+pub record Cut : Type 0 where
+  pub rest : List ℕ
+  pub parts : Parts
+
+-- the cut at a trailer, where end bytes stand before it
+abbrev pub cutAt : List ℕ → ℕ → Trailer → Cut
+cutAt bs end t = record { rest = take (end - span t) bs; parts = partsAt t (take (span t) (drop (end - span t) bs)) }
+
+abbrev pub checked : List ℕ → Result Trailer Cause → Result Cut Cause
+checked bs (Err e) = Err e
+checked bs (Ok t) =
+    cond (withinLimits t) (cond (leb (span t) (length bs - 8)) (Ok (cutAt bs (length bs - 8) t)) (Err Overrun)) (Err OverLimit)
+
+-- the frame that ends bs, or the first check that refuses it
+abbrev pub lastOf : List ℕ → Result Cut Cause
+lastOf bs = checked bs (trailerOf bs)
+
+-- bs is some bytes, and then a lawful frame of these parts
+pub record Behind (bs rest : List ℕ) (p : Parts) : Type 0 where
+  pub bytes : bs ≡ rest ++ encoded p
+  pub lawful : Lawful p

@@ -1,0 +1,66 @@
+// A frame: parts of the pass file, with the frame's number and place.
+ghost use mathlib.Core.Bool.{true};
+ghost use mathlib.Core.Path.{_≡_};
+ghost use lib.ListN.{length};
+ghost use Rattle.std.specs.Vec.{made};
+ghost use Rattle.pass.specs.Layout.{span, withinLimits};
+ghost use Rattle.pass.specs.Reading.{partsAt, lastOf, Behind};
+ghost use Rattle.pass.specs.View.{partsOf, seen};
+use crate::trailer::TRAILER_LEN;
+use crate::trailer::Trailer;
+use wire::fault::Cause;
+use wire::kind::Kind;
+use wire::kind::Suite;
+use wire::kind::SuiteDebug;
+
+// What a frame carries, each a part of the pass file.
+#[derive(Clone, Copy, Debug)]
+pub enum Content<'a> {
+    Idle { fill: &'a [u8] },
+    Sealed { suite: Suite, nonce: &'a [u8], header: &'a [u8], body: &'a [u8], tag: &'a [u8] },
+}
+
+impl<'a> Content<'a> {
+    // The parts that a trailer points back over.
+    fn cut(trailer: Trailer, parts: &'a [u8]) -> Content<'a>
+        requires whole { ⌜ length (now parts) ≡ span trailer ⌝ }
+        requires limits { ⌜ withinLimits trailer ≡ true ⌝ }
+        ensures { λ r. ⌜ partsOf r ≡ partsAt trailer (now (parts .entry)) ⌝ }
+    {
+        let suite = match trailer.kind {
+            Kind::Idle => return Content::Idle { fill: parts },
+            Kind::Sealed(suite) => suite,
+        };
+        let (nonce, parts) = parts.split_at(usize::from(trailer.nonce));
+        let (header, parts) = parts.split_at(usize::from(trailer.header));
+        let (body, tag) = parts.split_at(usize::from(trailer.body));
+        Content::Sealed { suite, nonce, header, body, tag }
+    }
+}
+
+// The frame that ends some bytes, and the bytes before it.
+#[derive(Clone, Copy)]
+pub(crate) struct Last<'a> {
+    pub(crate) rest: &'a [u8],
+    pub(crate) content: Content<'a>,
+}
+
+pub(crate) fn last_frame(bytes: &[u8]) -> Result<Last<'_>, Cause>
+    ensures value { λ r. ⌜ seen r ≡ lastOf (now (bytes .entry)) ⌝ }
+    ensures made { λ r. ⌜ made r (λ l. Behind (now (bytes .entry)) (l .rest .now) (partsOf (l .content))) ⌝ }
+{
+    let trailer = Trailer::read(bytes)?;
+    if !trailer.is_within_limits() {
+        return Err(Cause::OverLimit);
+    }
+    let end = bytes.len() - TRAILER_LEN;
+    let span = trailer.span();
+    if span > end {
+        return Err(Cause::Overrun);
+    }
+    let start = end - span;
+    Ok(Last {
+        rest: &bytes[0..start],
+        content: Content::cut(trailer, &bytes[start..end]),
+    })
+}

@@ -1,0 +1,3 @@
+// Frames of a pass file, and the walk that hands them out from the file's end.
+pub mod frame;
+pub(crate) mod trailer;
