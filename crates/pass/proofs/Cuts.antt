@@ -14,8 +14,8 @@ use Rattle.wire.specs.Limits.{headerMax, messageMax}
 use Rattle.wire.specs.declared.kind.Kind.{Kind}
 use Rattle.wire.specs.declared.kind.Kind.the-variants.{Idle}
 use Rattle.pass.specs.declared.trailer.Trailer.{Trailer}
-use Rattle.pass.specs.Layout.{Parts, lengths, trailerBytes, span, takes, withinLimits, encoded, Lawful}
-use Rattle.pass.specs.Reading.{trailerOf, Cut, partsAt, cutAt, checked, lastOf, Ends, Behind}
+use Rattle.pass.specs.Layout.{Parts, lengths, trailerBytes, span, takes, withinLimits, encoded, Lawful, Behind}
+use Rattle.pass.specs.Reading.{trailerOf, Cut, partsAt, cutAt, checked, lastOf, Ends}
 
 -- the lengths of the cut parts are the trailer's
 pub same-lengths : (t : Trailer) (ps : List ℕ) → length ps ≡ span t → lengths (partsAt t ps) ≡ t
@@ -26,7 +26,7 @@ same-lengths t ps h =
     simp (length-take, length-drop) (omega arith) in
     let g : length (drop (t .body) (drop (t .header) (drop (t .nonce) ps))) ≡ t .tag = simp length-drop (omega arith) in
     let same : lengths (partsAt t ps)
-      ≡ record { kind = t .kind; nonce = t .nonce; tag = t .tag; header = t .header; body = t .body } =
+    ≡ record { kind = t .kind; nonce = t .nonce; tag = t .tag; header = t .header; body = t .body } =
     cc in
     same
 
@@ -41,18 +41,18 @@ encoded-parts t ps h =
     let second = drop (t .nonce) ps in
     let third = drop (t .header) second in
     ap (λ xs. p .nonce ++ (p .header ++ xs)) (rejoin (t .body) third end)
-        ∙ ap (λ xs. p .nonce ++ xs) (rejoin (t .header) second end)
-        ∙ rejoin (t .nonce) ps end
-        ∙ ap (λ u. ps ++ trailerBytes u) (same-lengths t ps h)
+    ∙ ap (λ xs. p .nonce ++ xs) (rejoin (t .header) second end)
+    ∙ rejoin (t .nonce) ps end
+    ∙ ap (λ u. ps ++ trailerBytes u) (same-lengths t ps h)
 
 -- a part and what stands before it
 take-part : (bs : List ℕ) (end n : ℕ) → n ≤ end → take end bs ≡ take (end - n) bs ++ take n (drop (end - n) bs)
 take-part bs end n h =
     let whole : (end - n) + n ≡ end = omega arith in
     sym (take-append-drop (end - n) (take end bs))
-        ∙ ap (λ xs. xs ++ drop (end - n) (take end bs)) (take-take (end - n) end bs (omega arith))
-        ∙ ap (λ k. take (end - n) bs ++ drop (end - n) (take k bs)) (sym whole)
-        ∙ ap (λ xs. take (end - n) bs ++ xs) (drop-take (end - n) n bs)
+    ∙ ap (λ xs. xs ++ drop (end - n) (take end bs)) (take-take (end - n) end bs (omega arith))
+    ∙ ap (λ k. take (end - n) bs ++ drop (end - n) (take k bs)) (sym whole)
+    ∙ ap (λ xs. take (end - n) bs ++ xs) (drop-take (end - n) n bs)
 
 -- a lawful frame stands behind what the cut leaves
 pub behind : (bs : List ℕ) (t : Trailer)
@@ -65,7 +65,7 @@ behind bs t e w s =
     let ps = take (span t) (drop (end - span t) bs) in
     let h : length ps ≡ span t = simp (length-take, length-drop) (omega (arith, e .long)) in
     record {
-      bytes = e .bytes
+      joined = e .bytes
           ∙ ap (λ xs. xs ++ trailerBytes t) (take-part bs end (span t) s)
           ∙ append-assoc (take (end - span t) bs) ps (trailerBytes t)
           ∙ ap (λ xs. take (end - span t) bs ++ xs) (sym (encoded-parts t ps h));
@@ -92,11 +92,12 @@ pub accepted : (bs : List ℕ) (t : Trailer)
     → withinLimits t ≡ true
     → span t ≤ length bs - 8
     → Ok (cutAt bs (length bs - 8) t) ≡ lastOf bs
+unfolding lastOf
 accepted bs t e w s =
     sym
     (ap (checked bs) (sym e)
-        ∙ cond-true (withinLimits t) _ _ w
-        ∙ cond-true (leb (span t) (length bs - 8)) _ _ (le-leb (span t) (length bs - 8) s))
+    ∙ cond-true (withinLimits t) _ _ w
+    ∙ cond-true (leb (span t) (length bs - 8)) _ _ (le-leb (span t) (length bs - 8) s))
 
 zeros : (x y z : ℕ) → (eqb x 0 && (eqb y 0 && eqb z 0)) ≡ true → (x ≡ 0) × (y ≡ 0) × (z ≡ 0)
 zeros x y z h =

@@ -1,2 +1,5 @@
 pub mod Trailers
 pub mod Cuts
+pub mod RoundTrip
+pub mod Whole
+pub mod Call

@@ -21,8 +21,8 @@ last-bytes bs zero h = drop-all (length bs - 0) bs (omega arith)
 last-bytes bs (suc k) h =
     let next : (length bs - suc k) + 1 ≡ length bs - k = omega arith in
     drop-more bs (length bs - suc k) 0 (omega arith)
-        ∙ ap (λ i. back bs (suc k) ∷ drop i bs) next
-        ∙ ap (λ r. back bs (suc k) ∷ r) (last-bytes bs k (omega arith))
+    ∙ ap (λ i. back bs (suc k) ∷ drop i bs) next
+    ∙ ap (λ r. back bs (suc k) ∷ r) (last-bytes bs k (omega arith))
 
 pub ends : (bs : List ℕ) (k : Kind) (header body : ℕ)
     → 8 ≤ length bs
@@ -41,7 +41,7 @@ ends bs k header body long small eh eb ek mark =
     let b₁ : body / 256 ≡ back bs 4 = ap (λ n. n / 256) eb ∙ digits-div (back bs 4) low₃ in
     let b₀ : body % 256 ≡ back bs 3 = ap (λ n. n % 256) eb ∙ digits-mod (back bs 4) low₃ in
     let same : last bs 8
-      ≡ trailerBytes (record { kind = k; nonce = back bs 8; tag = back bs 7; header = header; body = body }) =
+    ≡ trailerBytes (record { kind = k; nonce = back bs 8; tag = back bs 7; header = header; body = body }) =
     cc in
     record {
       long = long;

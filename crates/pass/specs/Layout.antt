@@ -52,7 +52,12 @@ pub record Lawful (p : Parts) : Type 0 where
   pub nonce : length (p .nonce) ≤ nonceMax
   pub limits : withinLimits (lengths p) ≡ true
 
--- a file that is these frames end to end, the last of them first
-pub data EndToEnd : List ℕ → List Parts → Type 0 where
-  none : EndToEnd [] []
-  before : {rest : List ℕ} {ps : List Parts} (p : Parts) → Lawful p → EndToEnd rest ps → EndToEnd (rest ++ encoded p) (p ∷ ps)
+-- some bytes are the rest, and then a lawful frame of these parts
+pub record Behind (bytes rest : List ℕ) (p : Parts) : Type 0 where
+  pub joined : bytes ≡ rest ++ encoded p
+  pub lawful : Lawful p
+
+-- a file is these frames end to end, the last of them first
+abbrev pub EndToEnd : List ℕ → List Parts → Type 0
+EndToEnd file [] = file ≡ []
+EndToEnd file (p ∷ ps) = (rest : List ℕ) × Behind file rest p × EndToEnd rest ps

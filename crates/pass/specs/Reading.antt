@@ -15,7 +15,7 @@ use Rattle.wire.specs.declared.kind.Kind.{Kind}
 use Rattle.wire.specs.declared.fault.Cause.{Cause}
 use Rattle.wire.specs.declared.fault.Cause.the-variants.{Short, NoMark, UnknownKind, OverLimit, Overrun}
 use Rattle.pass.specs.declared.trailer.Trailer.{Trailer}
-use Rattle.pass.specs.Layout.{Parts, trailerBytes, span, withinLimits, encoded, Lawful}
+use Rattle.pass.specs.Layout.{Parts, trailerBytes, span, withinLimits}
 
 -- the k-th byte from the end
 abbrev pub back : List ℕ → ℕ → ℕ
@@ -68,10 +68,5 @@ checked bs (Ok t) =
     cond (withinLimits t) (cond (leb (span t) (length bs - 8)) (Ok (cutAt bs (length bs - 8) t)) (Err Overrun)) (Err OverLimit)
 
 -- the frame that ends bs, or the first check that refuses it
-abbrev pub lastOf : List ℕ → Result Cut Cause
+unfoldable pub lastOf : List ℕ → Result Cut Cause
 lastOf bs = checked bs (trailerOf bs)
-
--- bs is some bytes, and then a lawful frame of these parts
-pub record Behind (bs rest : List ℕ) (p : Parts) : Type 0 where
-  pub bytes : bs ≡ rest ++ encoded p
-  pub lawful : Lawful p

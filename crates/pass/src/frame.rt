@@ -3,9 +3,9 @@ ghost use mathlib.Core.Bool.{true};
 ghost use mathlib.Core.Path.{_≡_};
 ghost use lib.ListN.{length};
 ghost use Rattle.std.specs.Vec.{made};
-ghost use Rattle.pass.specs.Layout.{span, withinLimits};
-ghost use Rattle.pass.specs.Reading.{partsAt, lastOf, Behind};
-ghost use Rattle.pass.specs.View.{partsOf, seen};
+ghost use Rattle.pass.specs.Layout.{span, withinLimits, Behind};
+ghost use Rattle.pass.specs.Reading.{partsAt, lastOf};
+ghost use Rattle.pass.specs.View.{partsOf, handedOf, seen};
 use crate::trailer::TRAILER_LEN;
 use crate::trailer::Trailer;
 use wire::fault::Cause;
@@ -16,8 +16,16 @@ use wire::kind::SuiteDebug;
 // What a frame carries, each a part of the pass file.
 #[derive(Clone, Copy, Debug)]
 pub enum Content<'a> {
-    Idle { fill: &'a [u8] },
-    Sealed { suite: Suite, nonce: &'a [u8], header: &'a [u8], body: &'a [u8], tag: &'a [u8] },
+    Idle {
+        fill: &'a [u8],
+    },
+    Sealed {
+        suite: Suite,
+        nonce: &'a [u8],
+        header: &'a [u8],
+        body: &'a [u8],
+        tag: &'a [u8],
+    },
 }
 
 impl<'a> Content<'a> {
@@ -34,7 +42,72 @@ impl<'a> Content<'a> {
         let (nonce, parts) = parts.split_at(usize::from(trailer.nonce));
         let (header, parts) = parts.split_at(usize::from(trailer.header));
         let (body, tag) = parts.split_at(usize::from(trailer.body));
-        Content::Sealed { suite, nonce, header, body, tag }
+        Content::Sealed {
+            suite,
+            nonce,
+            header,
+            body,
+            tag,
+        }
+    }
+}
+
+// What the walk hands out. Only the walk makes one.
+#[derive(Clone, Copy, Debug)]
+pub struct Frame<'a> {
+    content: Content<'a>,
+    number: usize,
+    place: usize,
+    len: usize,
+}
+
+impl<'a> Frame<'a> {
+    // The frame before which `last.rest` stands.
+    pub(crate) fn new(last: Last<'a>, number: usize, len: usize) -> Frame<'a>
+        ensures { λ r. ⌜ handedOf r ≡ record { parts = partsOf (last .entry .content); number = number; place = length (last .entry .rest .now); len = len } ⌝ }
+    {
+        Frame {
+            content: last.content,
+            number,
+            place: last.rest.len(),
+            len,
+        }
+    }
+
+    pub fn content(&self) -> Content<'a>
+        ensures { λ r. ⌜ r ≡ now (self .entry) .content ⌝ }
+    {
+        self.content
+    }
+
+    pub fn kind(&self) -> Kind
+        ensures { λ r. ⌜ r ≡ partsOf (now (self .entry) .content) .kind ⌝ }
+    {
+        match self.content {
+            Content::Idle { .. } => Kind::Idle,
+            Content::Sealed { suite, .. } => Kind::Sealed(suite),
+        }
+    }
+
+    // From 0 at the file's end.
+    pub fn number(&self) -> usize
+        ensures { λ r. ⌜ r ≡ now (self .entry) .number ⌝ }
+    {
+        self.number
+    }
+
+    // Of the frame's first byte, from the file's first.
+    pub fn place(&self) -> usize
+        ensures { λ r. ⌜ r ≡ now (self .entry) .place ⌝ }
+    {
+        self.place
+    }
+
+    // Of the whole frame, with its trailer.
+    pub fn len(&self) -> usize
+        ensures { λ r. ⌜ r ≡ now (self .entry) .len ⌝ }
+    {
+        self.len
     }
 }
 

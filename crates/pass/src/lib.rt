@@ -1,3 +1,4 @@
 // Frames of a pass file, and the walk that hands them out from the file's end.
 pub mod frame;
-pub(crate) mod trailer;
+mod trailer;
+pub mod walk;

@@ -30,7 +30,18 @@ impl Trailer {
         ensures value { λ r. ⌜ r ≡ trailerOf (now (bytes .entry)) ⌝ }
         ensures made { λ r. ⌜ made r (λ t. Ends (now (bytes .entry)) t) ⌝ }
     {
-        let [.., nonce, tag, header_high, header_low, body_high, body_low, kind, mark] = bytes else {
+        let [
+            ..,
+            nonce,
+            tag,
+            header_high,
+            header_low,
+            body_high,
+            body_low,
+            kind,
+            mark,
+        ] = bytes
+        else {
             return Err(Cause::Short);
         };
         if *mark != MARK {
@@ -65,6 +76,9 @@ impl Trailer {
     pub(crate) fn span(self) -> usize
         ensures { λ r. ⌜ r ≡ span self ⌝ }
     {
-        usize::from(self.nonce) + usize::from(self.header) + usize::from(self.body) + usize::from(self.tag)
+        usize::from(self.nonce)
+            + usize::from(self.header)
+            + usize::from(self.body)
+            + usize::from(self.tag)
     }
 }

@@ -1,0 +1,68 @@
+// The calls of a walk.
+ghost use Prim.Native.Nat.{ℕ, _<_};
+ghost use mathlib.Core.List.{List, []};
+ghost use mathlib.Core.Path.{_≡_};
+ghost use lib.ListN.{length};
+ghost use Rattle.std.specs.Vec.{made};
+ghost use Rattle.pass.specs.Layout.{Behind};
+ghost use Rattle.pass.specs.Reading.{lastOf};
+ghost use Rattle.pass.specs.Walking.{Handed as TheHanded, start, handed, answer, next, locate, Steps};
+ghost use Rattle.pass.specs.View.{partsOf, seen, told, pointOf};
+ghost use Rattle.pass.specs.Runs.{handedOut, Walks, Whole};
+use super::Walk;
+use crate::frame::Frame;
+use crate::frame::Last;
+use crate::frame::last_frame;
+use crate::trailer::TRAILER_LEN;
+use wire::fault::FrameFault;
+use wire::fault::FrameFaultFromCause;
+use wire::fault::PassFault;
+use wire::fault::PassFaultFromFrame;
+use wire::fault::at;
+
+impl<'a> Walk<'a> {
+    pub fn new(file: &'a [u8]) -> Walk<'a>
+        ensures value { λ r. ⌜ pointOf r ≡ start (now (file .entry)) ⌝ }
+        ensures run { λ r. ⌜ Walks (now (file .entry)) [] (pointOf r) ⌝ }
+    {
+        Walk {
+            rest: file,
+            number: 0,
+        }
+    }
+
+    // The bytes not walked yet.
+    pub fn left(&self) -> usize
+        ensures { λ r. ⌜ r ≡ length (pointOf (now (self .entry)) .rest) ⌝ }
+    {
+        self.rest.len()
+    }
+
+    // The frame that ends the bytes that are left, or none if none are left.
+    pub fn next_frame(&mut self) -> Result<Option<Frame<'a>>, PassFault>
+        ensures value { λ r. ⌜ told r ≡ answer (pointOf (now (self .entry))) ⌝ }
+        ensures after { λ _. ⌜ pointOf (now (self .exit)) ≡ next (pointOf (now (self .entry))) ⌝ }
+        ensures step { λ r. ⌜ Steps (pointOf (now (self .entry))) (told r) (pointOf (now (self .exit))) ⌝ }
+        ensures run { λ r. ⌜ ((file : List ℕ) (fs : List TheHanded) → Walks file fs (pointOf (now (self .entry))) → Walks file (handedOut fs (told r)) (pointOf (now (self .exit)))) ⌝ }
+        ensures rule { λ r. ⌜ ((file : List ℕ) (fs : List TheHanded) → Walks file fs (pointOf (now (self .entry))) → Whole file fs (told r)) ⌝ }
+        ensures stays { λ r. ⌜ (((f : TheHanded) → told r ≡ handed f → ⊥) → answer (pointOf (now (self .exit))) ≡ told r) ⌝ }
+    {
+        let whole = self.rest.len();
+        if whole == 0 {
+            return Ok(None);
+        }
+        let last = at(located(self.rest), self.number)?;
+        let frame = Frame::new(last, self.number, whole - last.rest.len());
+        self.rest = last.rest;
+        self.number += 1;
+        Ok(Some(frame))
+    }
+}
+
+// The frame that ends `bytes`, with the place of its trailer in a fault: 0 if there is no whole trailer.
+fn located(bytes: &[u8]) -> Result<Last<'_>, FrameFault>
+    ensures value { λ r. ⌜ seen r ≡ locate (length (now (bytes .entry))) (lastOf (now (bytes .entry))) ⌝ }
+    ensures made { λ r. ⌜ made r (λ l. Behind (now (bytes .entry)) (l .rest .now) (partsOf (l .content))) ⌝ }
+{
+    Ok(at(last_frame(bytes), bytes.len().saturating_sub(TRAILER_LEN))?)
+}
