@@ -3,3 +3,4 @@ pub mod Cuts
 pub mod RoundTrip
 pub mod Whole
 pub mod Call
+pub mod Answered

@@ -32,7 +32,7 @@ one-list file [] (q ∷ qs) e f = absurd (nothing-behind (f .0) q (subst (λ xs.
 one-list file (p ∷ ps) qs e f =
     let g = first file (e .0) p qs (e .1) f in g .2 ∙ ap (λ rs. p ∷ rs) (one-list (e .0) ps (g .0) (e .2) (g .1))
 
-size-of : (file : List ℕ) (ps : List Parts) → EndToEnd file ps → length file ≡ size ps
+pub size-of : (file : List ℕ) (ps : List Parts) → EndToEnd file ps → length file ≡ size ps
 size-of file [] e = ap length e
 size-of file (p ∷ ps) e =
     omega (arith, ap length (e .1 .joined) ∙ length-append (e .0) (encoded p), size-of (e .0) ps (e .2))

@@ -1,7 +1,5 @@
 -- Which number and values belong to each fault. Assumes nothing.
 use Prim.Native.Nat.{ℕ}
-use Rattle.std.specs.declared.option.Option.{Option}
-use Rattle.std.specs.declared.option.Option.the-variants.{Some, None}
 use Rattle.std.specs.declared.result.Result.{Result}
 use Rattle.std.specs.declared.result.Result.the-variants.{Ok, Err}
 use Rattle.wire.specs.declared.fault.RecordFault.{RecordFault}
@@ -11,7 +9,7 @@ use Rattle.wire.specs.declared.fault.Cause.the-variants.{Record, Short, NoMark
 use Rattle.wire.specs.declared.fault.FrameFault.{FrameFault}
 use Rattle.wire.specs.declared.fault.PassFault.{PassFault}
 use Rattle.wire.specs.declared.fault.ListFault.{ListFault}
-use Rattle.wire.specs.declared.fault.ListFault.the-variants.{Pass, InputTooLong, Memory}
+use Rattle.wire.specs.declared.fault.ListFault.the-variants.{Pass, InputTooLong}
 
 abbrev pub recordNumber : RecordFault → ℕ
 recordNumber HeaderTooLong = 1
@@ -34,11 +32,9 @@ causeNumber NonceTooLong = 13
 abbrev pub passNumber : PassFault → ℕ
 passNumber e = causeNumber (e .fault .cause)
 
--- want of memory has no number
-abbrev pub listNumber : ListFault → Option ℕ
-listNumber (Pass fault) = Some (passNumber fault)
-listNumber InputTooLong = Some 14
-listNumber Memory = None
+abbrev pub listNumber : ListFault → ℕ
+listNumber (Pass fault) = passNumber fault
+listNumber InputTooLong = 14
 
 -- an error beside what the next fault up adds to it
 abbrev pub placed : {T E : Type 0} → Result T E → ℕ → Result T (E × ℕ)

@@ -2,8 +2,7 @@
 ghost use mathlib.Core.Path.{_≡_};
 ghost use Rattle.wire.specs.Faults.{recordNumber, causeNumber, passNumber, listNumber, placed};
 ghost use Rattle.wire.specs.declared.fault.Cause.the-variants.{Record as InRecord};
-ghost use Rattle.wire.specs.declared.fault.ListFault.the-variants.{Pass as InPass, Memory as OfMemory};
-use std::alloc::AllocError;
+ghost use Rattle.wire.specs.declared.fault.ListFault.the-variants.{Pass as InPass};
 
 // What is wrong with a record.
 #[derive(Clone, Copy, PartialEq, Eq, Debug)]
@@ -112,22 +111,20 @@ pub impl From<(FrameFault, usize)> for PassFault as PassFaultFromFrame {
     }
 }
 
-// What ends a listing before the file's start. Want of memory is no fault of the input, and has no number.
+// What ends a listing before the file's start.
 #[derive(Clone, Copy, PartialEq, Eq, Debug)]
 pub enum ListFault {
     Pass(PassFault),
     InputTooLong,
-    Memory,
 }
 
 impl ListFault {
-    pub fn number(self) -> Option<u8>
+    pub fn number(self) -> u8
         ensures { λ r. ⌜ r ≡ listNumber self ⌝ }
     {
         match self {
-            ListFault::Pass(fault) => Some(fault.number()),
-            ListFault::InputTooLong => Some(14),
-            ListFault::Memory => None,
+            ListFault::Pass(fault) => fault.number(),
+            ListFault::InputTooLong => 14,
         }
     }
 }
@@ -137,14 +134,6 @@ pub impl From<PassFault> for ListFault as ListFaultFromPass {
 
     fn from(fault: PassFault) -> ListFault {
         ListFault::Pass(fault)
-    }
-}
-
-pub impl From<AllocError> for ListFault as ListFaultFromAlloc {
-    ghost converts = { λ _ r. r ≡ OfMemory };
-
-    fn from(_error: AllocError) -> ListFault {
-        ListFault::Memory
     }
 }
 

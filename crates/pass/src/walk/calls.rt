@@ -38,6 +38,13 @@ impl<'a> Walk<'a> {
         self.rest.len()
     }
 
+    // The frames handed out so far.
+    pub fn count(&self) -> usize
+        ensures { λ r. ⌜ r ≡ pointOf (now (self .entry)) .number ⌝ }
+    {
+        self.number
+    }
+
     // The frame that ends the bytes that are left, or none if none are left.
     pub fn next_frame(&mut self) -> Result<Option<Frame<'a>>, PassFault>
         ensures value { λ r. ⌜ told r ≡ answer (pointOf (now (self .entry))) ⌝ }
