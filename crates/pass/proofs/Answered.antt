@@ -11,7 +11,7 @@ use Rattle.std.proofs.shelf.Tests.{cond-true, cond-false, eq-eqb, ne-eqb}
 use Rattle.std.specs.declared.result.Result.the-variants.{Ok}
 use Rattle.pass.specs.Layout.{Parts, encoded, Behind}
 use Rattle.pass.specs.Reading.{Cut, lastOf}
-use Rattle.pass.specs.Walking.{Point, Handed, none, handed, locate, tell, answer, move, next}
+use Rattle.pass.specs.Walking.{Point, Handed, none, handed, handOut, tell, answer, move, next}
 use Rattle.pass.proofs.RoundTrip.{read-back, shorter}
 
 pub none-answered : (w : Point) → w .rest ≡ [] → answer w ≡ none
@@ -30,7 +30,7 @@ module _ (w : Point) (rest : List ℕ) (p : Parts) (b : Behind (w .rest) rest p)
       let n : length (w .rest) - length rest ≡ length (encoded p) =
       omega (arith, ap length (b .joined) ∙ length-append rest (encoded p)) in
       cond-false _ _ _ some
-      ∙ ap (λ l. tell w (locate (length (w .rest)) l)) last
+      ∙ ap (λ l. tell (w .number) (handOut w l)) last
       ∙ ap (λ k. handed (record { parts = p; number = w .number; place = length rest; len = k })) n
 
   pub frame-passed : next w ≡ record { rest = rest; number = w .number + 1 }

@@ -10,13 +10,12 @@ use Rattle.std.proofs.shelf.Lists.{length-append, nil-from-length}
 use Rattle.std.proofs.shelf.Tests.{cond-true, cond-false, eq-eqb, ne-eqb}
 use Rattle.std.specs.declared.result.Result.{Result}
 use Rattle.std.specs.declared.result.Result.the-variants.{Ok, Err}
-use Rattle.wire.specs.Faults.{causeNumber}
-use Rattle.wire.specs.declared.fault.Cause.{Cause}
 use Rattle.wire.specs.declared.fault.FrameFault.{FrameFault}
 use Rattle.pass.specs.Layout.{encoded, Behind}
 use Rattle.pass.specs.Reading.{Cut, lastOf}
-use Rattle.pass.specs.Walking.{Point, Handed, Told, none, handed, refused, locate, tell, answer, move, next, Steps}
+use Rattle.pass.specs.Walking.{Point, Handed, Told, none, handed, refused, handOut, tell, answer, move, next, Steps}
 use Rattle.pass.specs.Runs.{handedOut, Walks, called, Whole}
+use Rattle.pass.proofs.Cuts.{refused-at}
 use Rattle.pass.proofs.RoundTrip.{no-frame}
 use Rattle.pass.proofs.Whole.{whole}
 
@@ -45,14 +44,16 @@ promise w r v value after step =
       stays = λ h. ap answer (stood w r v step h) ∙ sym value;
     }
 
-located-ok : (n : ℕ) (last : Result Cut Cause) (cut : Cut) → Ok cut ≡ locate n last → last ≡ Ok cut
-located-ok n (Ok c) cut e = cc
-located-ok n (Err c) cut e = let z : _≡_ {A = ℕ} 0 1 = cc in absurd (omega arith)
+-- what is handed out was cut off
+cut-off : (w : Point) (last : Result Cut FrameFault) (f : Handed)
+    → Ok f ≡ handOut w last
+    → (cut : Cut) × (last ≡ Ok cut) × (Ok f ≡ handOut w (Ok cut))
+cut-off w (Ok cut) f h = (cut, refl, h)
+cut-off w (Err e) f h = let z : _≡_ {A = ℕ} 0 1 = cc in absurd (omega arith)
 
-located-err : (n : ℕ) (last : Result Cut Cause) (e : FrameFault) → Err e ≡ locate n last → (last ≡ Err (e .cause)) × (e .place ≡ n - 8)
-located-err n (Ok c) e h = let z : _≡_ {A = ℕ} 0 1 = cc in absurd (omega arith)
-located-err n (Err c) e h =
-    let s : e ≡ record { cause = c; place = n - 8 } = cc in (ap (λ x. Err (x .cause)) (sym s), ap (λ x. x .place) s)
+not-cut : (w : Point) (last : Result Cut FrameFault) (e : FrameFault) → Err e ≡ handOut w last → last ≡ Err e
+not-cut w (Ok cut) e h = let z : _≡_ {A = ℕ} 0 1 = cc in absurd (omega arith)
+not-cut w (Err d) e h = cc
 
 module _ (w : Point) where
   pub none-left : length (w .rest) ≡ 0 → Promise w none w
@@ -64,31 +65,50 @@ module _ (w : Point) where
     left : eqb (length (w .rest)) 0 ≡ false
     left = ne-eqb _ 0 some
 
-    pub refuses : (e : FrameFault)
-        → Err e ≡ locate (length (w .rest)) (lastOf (w .rest))
-        → Promise w (refused (causeNumber (e .cause)) (e .place) (w .number)) w
-    refuses e h =
-        let found = located-err (length (w .rest)) (lastOf (w .rest)) e h in
-        promise w _ w
-        (sym (cond-false _ _ _ left ∙ ap (tell w) (sym h)))
-        (sym (cond-false _ _ _ left ∙ ap (move w) (found .0)))
+    pub refuses : (e : FrameFault) (v : Point)
+        → Err e ≡ handOut w (lastOf (w .rest))
+        → v ≡ move w (lastOf (w .rest))
+        → Promise w (tell (w .number) (Err e)) v
+    refuses e v h m =
+        let found = not-cut w (lastOf (w .rest)) e h in
+        let stays : v ≡ w = m ∙ ap (move w) found in
+        promise w _ v
+        (sym (cond-false _ _ _ left ∙ ap (tell (w .number)) (sym h)))
+        (m ∙ sym (cond-false _ _ _ left))
         (record {
           left = omega (arith, some);
-          apart = λ rest p. no-frame (w .rest) rest p (e .cause) (found .0);
-          place = found .1;
+          apart = λ rest p. no-frame (w .rest) rest p e found;
+          place = refused-at (w .rest) e found;
           frame = refl;
-          same = refl;
+          same = stays;
         })
 
-    pub hands : (cut : Cut)
-        → Ok cut ≡ locate (length (w .rest)) (lastOf (w .rest))
-        → Behind (w .rest) (cut .rest) (cut .parts)
-        → Promise w (tell w (Ok cut)) (move w (Ok cut))
-    hands cut h b =
-        let found = located-ok (length (w .rest)) (lastOf (w .rest)) cut h in
-        let n : length (w .rest) ≡ length (cut .rest) + length (encoded (cut .parts)) =
-        ap length (b .joined) ∙ length-append (cut .rest) (encoded (cut .parts)) in
-        promise w _ _
-        (sym (cond-false _ _ _ left ∙ ap (tell w) (sym h)))
-        (sym (cond-false _ _ _ left ∙ ap (move w) found))
-        (record { behind = b; number = refl; place = refl; len = omega arith; next = refl })
+    pub hands : (f : Handed) (v : Point)
+        → Ok f ≡ handOut w (lastOf (w .rest))
+        → v ≡ move w (lastOf (w .rest))
+        → Behind (w .rest) (v .rest) (f .parts)
+        → Promise w (handed f) v
+    hands f v h m b =
+        let c = cut-off w (lastOf (w .rest)) f h in
+        let same : f
+        ≡ record {
+          parts = c .0 .parts;
+          number = w .number;
+          place = length (c .0 .rest);
+          len = length (w .rest) - length (c .0 .rest);
+        } =
+        cc (c .2) in
+        let moved : v ≡ record { rest = c .0 .rest; number = w .number + 1 } = m ∙ ap (move w) (c .1) in
+        let place : f .place ≡ length (v .rest) = ap (λ g. g .place) same ∙ sym (ap (λ u. length (u .rest)) moved) in
+        let n : length (w .rest) ≡ length (v .rest) + length (encoded (f .parts)) =
+        ap length (b .joined) ∙ length-append (v .rest) (encoded (f .parts)) in
+        promise w _ v
+        (sym (cond-false _ _ _ left ∙ ap (tell (w .number)) (sym h)))
+        (m ∙ sym (cond-false _ _ _ left))
+        (record {
+          behind = b;
+          number = ap (λ g. g .number) same;
+          place = place;
+          len = omega (arith, ap (λ g. g .len) same, ap (λ g. g .place) same);
+          next = ap (λ u. u .number) moved;
+        })

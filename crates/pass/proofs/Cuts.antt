@@ -1,21 +1,30 @@
 -- The parts that a trailer points back over, joined again, are the bytes that they were cut from, and have the lengths
 -- that the trailer tells.
-use mathlib.Core.Bool.{Bool, true, _&&_}
+use mathlib.Core.Bool.{Bool, true, false, cond, _&&_}
 use mathlib.Core.List.{List, [], _∷_, _++_, append-assoc}
-use mathlib.Core.Path.{_≡_, refl, ap, sym, _∙_}
+use mathlib.Core.Path.{_≡_, refl, ap, sym, subst, _∙_}
 use Prim.Native.Nat.{ℕ, _+_, _-_, _≤_, _<_, min}
 use native.Mathlib.Omega.{arith}
 use lib.Dec.{eqb, leb}
-use lib.ListN.{length, take, drop}
-use Rattle.std.proofs.shelf.Lists.{length-take, length-drop, take-append-drop, take-take, take-all, drop-all, drop-take}
-use Rattle.std.proofs.shelf.Tests.{and-parts, eqb-true, cond-true, le-leb}
-use Rattle.std.specs.declared.result.Result.the-variants.{Ok}
+use lib.ListN.{length, getD, take, drop}
+use Rattle.std.proofs.shelf.Lists.{length-take, length-drop, take-append-drop, take-all, drop-all}
+use Rattle.std.proofs.shelf.Tests.{and-parts, eqb-true, cond-true, le-leb, leb-true}
+use Rattle.std.specs.declared.result.Result.{Result}
+use Rattle.std.specs.declared.result.Result.the-variants.{Ok, Err}
+use Rattle.wire.specs.declared.fault.FrameFault.{FrameFault}
+use Rattle.wire.specs.declared.fault.Cause.{Cause}
+use Rattle.wire.specs.declared.fault.Cause.the-variants.{OverLimit, Overrun}
 use Rattle.wire.specs.Limits.{headerMax, messageMax}
 use Rattle.wire.specs.declared.kind.Kind.{Kind}
 use Rattle.wire.specs.declared.kind.Kind.the-variants.{Idle}
 use Rattle.pass.specs.declared.trailer.Trailer.{Trailer}
 use Rattle.pass.specs.Layout.{Parts, lengths, trailerBytes, span, takes, withinLimits, encoded, Lawful, Behind}
-use Rattle.pass.specs.Reading.{trailerOf, Cut, partsAt, cutAt, checked, lastOf, Ends}
+use Rattle.pass.specs.Reading.{trailerOf, Cut, partsAt, cutAt, checked, locate, lastOf}
+use Rattle.pass.proofs.Trailers.{Ends, ends}
+
+located : (n : ℕ) (found : Result Cut Cause) (cut : Cut) → locate n found ≡ Ok cut → found ≡ Ok cut
+located n (Ok c) cut e = cc
+located n (Err c) cut e = let z : _≡_ {A = ℕ} 0 1 = cc in absurd (omega arith)
 
 -- the lengths of the cut parts are the trailer's
 pub same-lengths : (t : Trailer) (ps : List ℕ) → length ps ≡ span t → lengths (partsAt t ps) ≡ t
@@ -45,59 +54,76 @@ encoded-parts t ps h =
     ∙ rejoin (t .nonce) ps end
     ∙ ap (λ u. ps ++ trailerBytes u) (same-lengths t ps h)
 
--- a part and what stands before it
-take-part : (bs : List ℕ) (end n : ℕ) → n ≤ end → take end bs ≡ take (end - n) bs ++ take n (drop (end - n) bs)
-take-part bs end n h =
-    let whole : (end - n) + n ≡ end = omega arith in
-    sym (take-append-drop (end - n) (take end bs))
-    ∙ ap (λ xs. xs ++ drop (end - n) (take end bs)) (take-take (end - n) end bs (omega arith))
-    ∙ ap (λ k. take (end - n) bs ++ drop (end - n) (take k bs)) (sym whole)
-    ∙ ap (λ xs. take (end - n) bs ++ xs) (drop-take (end - n) n bs)
-
 -- a lawful frame stands behind what the cut leaves
-pub behind : (bs : List ℕ) (t : Trailer)
+behind : (bs : List ℕ) (t : Trailer)
     → Ends bs t
     → withinLimits t ≡ true
-    → span t ≤ length bs - 8
-    → Behind bs (cutAt bs (length bs - 8) t .rest) (cutAt bs (length bs - 8) t .parts)
+    → span t ≤ length (take (length bs - 8) bs)
+    → Behind bs (cutAt t (take (length bs - 8) bs) .rest) (cutAt t (take (length bs - 8) bs) .parts)
 behind bs t e w s =
-    let end = length bs - 8 in
-    let ps = take (span t) (drop (end - span t) bs) in
-    let h : length ps ≡ span t = simp (length-take, length-drop) (omega (arith, e .long)) in
+    let before = take (length bs - 8) bs in
+    let n = length before - span t in
+    let ps = drop n before in
+    let h : length ps ≡ span t = simp length-drop (omega arith) in
     record {
       joined = e .bytes
-          ∙ ap (λ xs. xs ++ trailerBytes t) (take-part bs end (span t) s)
-          ∙ append-assoc (take (end - span t) bs) ps (trailerBytes t)
-          ∙ ap (λ xs. take (end - span t) bs ++ xs) (sym (encoded-parts t ps h));
+          ∙ ap (λ xs. xs ++ trailerBytes t) (sym (take-append-drop n before))
+          ∙ append-assoc (take n before) ps (trailerBytes t)
+          ∙ ap (λ xs. take n before ++ xs) (sym (encoded-parts t ps h));
       lawful = record {
         nonce = omega (arith, e .nonce, ap (λ u. u .nonce) (same-lengths t ps h));
         limits = ap withinLimits (same-lengths t ps h) ∙ w;
       };
     }
 
--- what the code cuts is the cut of the definition: s is the span that the code adds up
-pub same-cut : (bs : List ℕ) (t : Trailer) (end s : ℕ) (p : Parts)
-    → s ≡ span t
-    → s ≤ end
-    → p ≡ partsAt t (take (end - (end - s)) (drop (end - s) bs))
-    → _≡_ {A = Cut} (record { rest = take (end - s - 0) bs; parts = p }) (cutAt bs end t)
-same-cut bs t end s p es h ep =
-    let rest : end - s - 0 ≡ end - span t = omega arith in
-    let start : end - s ≡ end - span t = omega arith in
-    let size : end - (end - s) ≡ span t = omega arith in
-    cc
-
+-- what passes the checks is the cut at the trailer that was read
 pub accepted : (bs : List ℕ) (t : Trailer)
-    → Ok t ≡ trailerOf bs
+    → trailerOf bs ≡ Ok t
     → withinLimits t ≡ true
-    → span t ≤ length bs - 8
-    → Ok (cutAt bs (length bs - 8) t) ≡ lastOf bs
+    → span t ≤ length (take (length bs - 8) bs)
+    → lastOf bs ≡ Ok (cutAt t (take (length bs - 8) bs))
 unfolding lastOf
 accepted bs t e w s =
-    sym
-    (ap (checked bs) (sym e)
+    let before = take (length bs - 8) bs in
+    ap (locate (length bs))
+    (ap (checked bs) e
     ∙ cond-true (withinLimits t) _ _ w
-    ∙ cond-true (leb (span t) (length bs - 8)) _ _ (le-leb (span t) (length bs - 8) s))
+    ∙ cond-true (leb (span t) (length before)) _ _ (le-leb (span t) (length before) s))
+
+module _ (bs : List ℕ) (small : (i : ℕ) → getD bs i 0 < 256) where
+  by-limits : (t : Trailer) (cut : Cut) (within fits : Bool)
+      → trailerOf bs ≡ Ok t
+      → withinLimits t ≡ within
+      → leb (span t) (length (take (length bs - 8) bs)) ≡ fits
+      → cond within (cond fits (Ok (cutAt t (take (length bs - 8) bs))) (Err Overrun)) (Err OverLimit) ≡ Ok cut
+      → Behind bs (cut .rest) (cut .parts)
+  by-limits t cut false _ r w f e = let z : _≡_ {A = ℕ} 0 1 = cc in absurd (omega arith)
+  by-limits t cut true false r w f e = let z : _≡_ {A = ℕ} 0 1 = cc in absurd (omega arith)
+  by-limits t cut true true r w f e =
+      let same : cutAt t (take (length bs - 8) bs) ≡ cut = cc in
+      subst (λ (c : Cut). Behind bs (c .rest) (c .parts)) same
+      (behind bs t (ends bs small t r) w (leb-true (span t) (length (take (length bs - 8) bs)) f))
+
+  by-trailer : (cut : Cut) (trailer : Result Trailer Cause)
+      → trailerOf bs ≡ trailer
+      → checked bs trailer ≡ Ok cut
+      → Behind bs (cut .rest) (cut .parts)
+  by-trailer cut (Err e) r c = let z : _≡_ {A = ℕ} 0 1 = cc in absurd (omega arith)
+  by-trailer cut (Ok t) r c = by-limits t cut (withinLimits t) (leb (span t) (length (take (length bs - 8) bs))) r refl refl c
+
+  -- the frame that ends some bytes, by the definition, is there
+  pub sound : (cut : Cut) → lastOf bs ≡ Ok cut → Behind bs (cut .rest) (cut .parts)
+  unfolding lastOf
+  sound cut e = by-trailer cut (trailerOf bs) refl (located (length bs) (checked bs (trailerOf bs)) cut e)
+
+-- a refusal tells the trailer's place
+pub refused-at : (bs : List ℕ) (e : FrameFault) → lastOf bs ≡ Err e → e .place ≡ length bs - 8
+unfolding lastOf
+refused-at bs e h = by-cause (checked bs (trailerOf bs)) h
+  where
+    by-cause : (found : Result Cut Cause) → locate (length bs) found ≡ Err e → e .place ≡ length bs - 8
+    by-cause (Ok c) h = let z : _≡_ {A = ℕ} 0 1 = cc in absurd (omega arith)
+    by-cause (Err c) h = let same : record { cause = c; place = length bs - 8 } ≡ e = cc in ap (λ x. x .place) (sym same)
 
 zeros : (x y z : ℕ) → (eqb x 0 && (eqb y 0 && eqb z 0)) ≡ true → (x ≡ 0) × (y ≡ 0) × (z ≡ 0)
 zeros x y z h =

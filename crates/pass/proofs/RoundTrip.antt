@@ -13,7 +13,7 @@ use Rattle.std.specs.declared.option.Option.the-variants.{Some}
 use Rattle.std.specs.declared.result.Result.{Result}
 use Rattle.std.specs.declared.result.Result.the-variants.{Ok, Err}
 use Rattle.wire.specs.Kinds.{kindOf}
-use Rattle.wire.specs.declared.fault.Cause.{Cause}
+use Rattle.wire.specs.declared.fault.FrameFault.{FrameFault}
 use Rattle.wire.proofs.Listed.{listed}
 use Rattle.pass.specs.declared.trailer.Trailer.{Trailer}
 use Rattle.pass.specs.Layout.{Parts, lengths, trailerBytes, span, encoded, Lawful, Behind}
@@ -34,7 +34,7 @@ two-bytes : (n high low : ℕ) → high ≡ n / 256 → low ≡ n % 256 → high
 two-bytes n high low h l = omega (arith, mod-add-div' n 256)
 
 -- the trailer that some bytes end in is read
-trailer-back : (xs : List ℕ) (t : Trailer) → Ok t ≡ trailerOf (xs ++ trailerBytes t)
+trailer-back : (xs : List ℕ) (t : Trailer) → trailerOf (xs ++ trailerBytes t) ≡ Ok t
 trailer-back xs t =
     let bs = xs ++ trailerBytes t in
     let at = back-of xs (trailerBytes t) in
@@ -47,11 +47,10 @@ trailer-back xs t =
     let fields : fieldsOf bs (Some (t .kind))
     ≡ Ok (record { kind = t .kind; nonce = t .nonce; tag = t .tag; header = t .header; body = t .body }) =
     cc in
-    sym
-    (cond-false (ltb (length bs) 8) _ _ (le-ltb (length bs) 8 long)
+    cond-false (ltb (length bs) 8) _ _ (le-ltb (length bs) 8 long)
     ∙ cond-true (eqb (back bs 1) 0xA7) _ _ (eq-eqb (back bs 1) 0xA7 (at 1 (omega arith)))
     ∙ ap (fieldsOf bs) kind
-    ∙ fields)
+    ∙ fields
 
 -- the parts, joined
 abbrev joined : Parts → List ℕ
@@ -81,17 +80,18 @@ read-back rest p ok =
     let t = lengths p in
     let bs = rest ++ encoded p in
     let end = trailerBytes t in
-    let apart : encoded p ≡ joined p ++ end = simp append-assoc in
     let whole : bs ≡ (rest ++ joined p) ++ end = simp append-assoc in
     let n : length (joined p) ≡ span t = simp length-append (omega arith) in
-    let m : length bs ≡ length rest + (span t + 8) = simp length-append (omega arith) in
-    let before : length rest ≡ length bs - 8 - span t = omega arith in
-    let tail : drop (length bs - 8 - span t) bs ≡ joined p ++ end = drop-at rest (encoded p) _ before ∙ apart in
-    let parts : take (span t) (drop (length bs - 8 - span t) bs) ≡ joined p =
-    ap (take (span t)) tail ∙ take-at (joined p) end (span t) n in
-    sym (accepted bs t (trailer-back (rest ++ joined p) t ∙ ap trailerOf (sym whole)) (ok .limits) (omega arith))
-    ∙ ap (λ r. Ok (cut r (partsAt t (take (span t) (drop (length bs - 8 - span t) bs))))) (take-at rest (encoded p) _ before)
-    ∙ ap (λ ps. Ok (cut rest (partsAt t ps))) parts
+    let m : length (rest ++ joined p) ≡ length bs - 8 = omega (arith, ap length whole, length-append (rest ++ joined p) end) in
+    let before : take (length bs - 8) bs ≡ rest ++ joined p =
+    ap (take (length bs - 8)) whole ∙ take-at (rest ++ joined p) end (length bs - 8) m in
+    let fits : span t ≤ length (take (length bs - 8) bs) =
+    omega (arith, ap length before, length-append rest (joined p)) in
+    let start : length rest ≡ length (rest ++ joined p) - span t = omega (arith, length-append rest (joined p)) in
+    accepted bs t (ap trailerOf whole ∙ trailer-back (rest ++ joined p) t) (ok .limits) fits
+    ∙ ap (λ xs. Ok (cutAt t xs)) before
+    ∙ ap (λ r. Ok (cut r (partsAt t (drop (length (rest ++ joined p) - span t) (rest ++ joined p))))) (take-at rest (joined p) _ start)
+    ∙ ap (λ ps. Ok (cut rest (partsAt t ps))) (drop-at rest (joined p) _ start)
     ∙ ap (λ q. Ok (cut rest q)) (cut-joined p)
 
 -- one lawful frame at most ends some bytes
@@ -102,7 +102,7 @@ one-frame bs rest rest′ p q h k =
     let same : cut rest p ≡ cut rest′ q = cc in (ap (λ c. c .rest) same, ap (λ c. c .parts) same)
 
 -- bytes that a check refuses end in none
-pub no-frame : (bs rest : List ℕ) (p : Parts) (e : Cause) → lastOf bs ≡ Err e → Behind bs rest p → ⊥
+pub no-frame : (bs rest : List ℕ) (p : Parts) (e : FrameFault) → lastOf bs ≡ Err e → Behind bs rest p → ⊥
 no-frame bs rest p e refused h =
     let read : lastOf bs ≡ Ok (cut rest p) = ap lastOf (h .joined) ∙ read-back rest p (h .lawful) in
     let z : _≡_ {A = ℕ} 0 1 = cc in omega arith

@@ -1,8 +1,7 @@
 -- What is read before a point of a pass file, by the checks in their order. Assumes nothing.
 use mathlib.Core.Bool.{cond}
-use mathlib.Core.List.{List, [], _∷_, _++_}
-use mathlib.Core.Path.{_≡_}
-use Prim.Native.Nat.{ℕ, _+_, _-_, _*_, _≤_}
+use mathlib.Core.List.{List}
+use Prim.Native.Nat.{ℕ, _+_, _-_, _*_}
 use lib.Dec.{eqb, leb, ltb}
 use lib.ListN.{length, getD, take, drop}
 use Rattle.std.specs.declared.option.Option.{Option}
@@ -10,12 +9,12 @@ use Rattle.std.specs.declared.option.Option.the-variants.{Some, None}
 use Rattle.std.specs.declared.result.Result.{Result}
 use Rattle.std.specs.declared.result.Result.the-variants.{Ok, Err}
 use Rattle.wire.specs.Kinds.{kindOf}
-use Rattle.wire.specs.Limits.{nonceMax}
 use Rattle.wire.specs.declared.kind.Kind.{Kind}
 use Rattle.wire.specs.declared.fault.Cause.{Cause}
 use Rattle.wire.specs.declared.fault.Cause.the-variants.{Short, NoMark, UnknownKind, OverLimit, Overrun}
+use Rattle.wire.specs.declared.fault.FrameFault.{FrameFault}
 use Rattle.pass.specs.declared.trailer.Trailer.{Trailer}
-use Rattle.pass.specs.Layout.{Parts, trailerBytes, span, withinLimits}
+use Rattle.pass.specs.Layout.{Parts, span, withinLimits}
 
 -- the k-th byte from the end
 abbrev pub back : List ℕ → ℕ → ℕ
@@ -36,12 +35,6 @@ fieldsOf bs (Some k) =
 abbrev pub trailerOf : List ℕ → Result Trailer Cause
 trailerOf bs = cond (ltb (length bs) 8) (Err Short) (cond (eqb (back bs 1) 0xA7) (fieldsOf bs (kindOf (back bs 2))) (Err NoMark))
 
--- the last eight bytes are this trailer's
-pub record Ends (bs : List ℕ) (t : Trailer) : Type 0 where
-  pub long : 8 ≤ length bs
-  pub nonce : t .nonce ≤ nonceMax
-  pub bytes : bs ≡ take (length bs - 8) bs ++ trailerBytes t
-
 -- the parts that a trailer points back over
 abbrev pub partsAt : Trailer → List ℕ → Parts
 partsAt t ps =
@@ -58,15 +51,26 @@ pub record Cut : Type 0 where
   pub rest : List ℕ
   pub parts : Parts
 
--- the cut at a trailer, where end bytes stand before it
-abbrev pub cutAt : List ℕ → ℕ → Trailer → Cut
-cutAt bs end t = record { rest = take (end - span t) bs; parts = partsAt t (take (span t) (drop (end - span t) bs)) }
+-- the cut of the bytes before a trailer
+abbrev pub cutAt : Trailer → List ℕ → Cut
+cutAt t before =
+    record {
+      rest = take (length before - span t) before;
+      parts = partsAt t (drop (length before - span t) before);
+    }
+
+abbrev pub cutOf : Trailer → List ℕ → Result Cut Cause
+cutOf t before = cond (withinLimits t) (cond (leb (span t) (length before)) (Ok (cutAt t before)) (Err Overrun)) (Err OverLimit)
 
 abbrev pub checked : List ℕ → Result Trailer Cause → Result Cut Cause
 checked bs (Err e) = Err e
-checked bs (Ok t) =
-    cond (withinLimits t) (cond (leb (span t) (length bs - 8)) (Ok (cutAt bs (length bs - 8) t)) (Err Overrun)) (Err OverLimit)
+checked bs (Ok t) = cutOf t (take (length bs - 8) bs)
+
+-- a refusal tells the place of the trailer, which is 0 with no whole trailer
+abbrev pub locate : ℕ → Result Cut Cause → Result Cut FrameFault
+locate len (Ok cut) = Ok cut
+locate len (Err cause) = Err (record { cause = cause; place = len - 8 })
 
 -- the frame that ends bs, or the first check that refuses it
-unfoldable pub lastOf : List ℕ → Result Cut Cause
-lastOf bs = checked bs (trailerOf bs)
+unfoldable pub lastOf : List ℕ → Result Cut FrameFault
+lastOf bs = locate (length bs) (checked bs (trailerOf bs))

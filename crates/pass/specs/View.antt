@@ -34,6 +34,10 @@ seen (Ok l) = Ok (record { rest = l .rest .now; parts = partsOf (l .content) })
 abbrev pub handedOf : Frame → Handed
 handedOf f = record { parts = partsOf (f .content); number = f .number; place = f .place; len = f .len }
 
+abbrev pub handedIn : {E : Type 0} → Result Frame E → Result Handed E
+handedIn (Ok f) = Ok (handedOf f)
+handedIn (Err e) = Err e
+
 abbrev pub told : Result (Option Frame) PassFault → Told
 told (Ok None) = none
 told (Ok (Some f)) = handed (handedOf f)

@@ -8,7 +8,6 @@ use lib.ListN.{length}
 use Rattle.std.specs.declared.result.Result.{Result}
 use Rattle.std.specs.declared.result.Result.the-variants.{Ok, Err}
 use Rattle.wire.specs.Faults.{causeNumber}
-use Rattle.wire.specs.declared.fault.Cause.{Cause}
 use Rattle.wire.specs.declared.fault.FrameFault.{FrameFault}
 use Rattle.pass.specs.Layout.{Parts, encoded, Lawful, Behind}
 use Rattle.pass.specs.Reading.{Cut, lastOf}
@@ -34,30 +33,29 @@ pub data Told : Type 0 where
   handed : Handed → Told
   refused : (fault place frame : ℕ) → Told
 
--- a refusal, with the place of the trailer: 0 with no whole trailer
-abbrev pub locate : ℕ → Result Cut Cause → Result Cut FrameFault
-locate len (Ok cut) = Ok cut
-locate len (Err cause) = Err (record { cause = cause; place = len - 8 })
-
--- by the frame that ends the rest, or the check that refuses it
-abbrev pub tell : Point → Result Cut FrameFault → Told
-tell w (Ok cut) =
-    handed
+-- what is cut off the rest, as it is handed out
+abbrev pub handOut : Point → Result Cut FrameFault → Result Handed FrameFault
+handOut w (Ok cut) =
+    Ok
     (record {
       parts = cut .parts;
       number = w .number;
       place = length (cut .rest);
       len = length (w .rest) - length (cut .rest);
     })
-tell w (Err e) = refused (causeNumber (e .cause)) (e .place) (w .number)
+handOut w (Err e) = Err e
+
+abbrev pub tell : ℕ → Result Handed FrameFault → Told
+tell number (Ok f) = handed f
+tell number (Err e) = refused (causeNumber (e .cause)) (e .place) number
 
 abbrev pub answer : Point → Told
-answer w = cond (eqb (length (w .rest)) 0) none (tell w (locate (length (w .rest)) (lastOf (w .rest))))
+answer w = cond (eqb (length (w .rest)) 0) none (tell (w .number) (handOut w (lastOf (w .rest))))
 
 -- only a frame that is handed out moves the walk
-abbrev pub move : Point → Result Cut Cause → Point
+abbrev pub move : Point → Result Cut FrameFault → Point
 move w (Ok cut) = record { rest = cut .rest; number = w .number + 1 }
-move w (Err cause) = w
+move w (Err e) = w
 
 abbrev pub next : Point → Point
 next w = cond (eqb (length (w .rest)) 0) w (move w (lastOf (w .rest)))

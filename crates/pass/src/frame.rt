@@ -2,9 +2,8 @@
 ghost use mathlib.Core.Bool.{true};
 ghost use mathlib.Core.Path.{_≡_};
 ghost use lib.ListN.{length};
-ghost use Rattle.std.specs.Vec.{made};
-ghost use Rattle.pass.specs.Layout.{span, withinLimits, Behind};
-ghost use Rattle.pass.specs.Reading.{partsAt, lastOf};
+ghost use Rattle.pass.specs.Layout.{span, withinLimits};
+ghost use Rattle.pass.specs.Reading.{trailerOf, partsAt, cutOf, checked};
 ghost use Rattle.pass.specs.View.{partsOf, handedOf, seen};
 use crate::trailer::TRAILER_LEN;
 use crate::trailer::Trailer;
@@ -118,22 +117,31 @@ pub(crate) struct Last<'a> {
     pub(crate) content: Content<'a>,
 }
 
+impl<'a> Last<'a> {
+    // Cuts the parts that a trailer tells of off the bytes before it.
+    fn cut(trailer: Trailer, before: &'a [u8]) -> Result<Last<'a>, Cause>
+        ensures { λ r. ⌜ seen r ≡ cutOf trailer (now (before .entry)) ⌝ }
+    {
+        if !trailer.is_within_limits() {
+            return Err(Cause::OverLimit);
+        }
+        let span = trailer.span();
+        if span > before.len() {
+            return Err(Cause::Overrun);
+        }
+        let (rest, parts) = before.split_at(before.len() - span);
+        Ok(Last {
+            rest,
+            content: Content::cut(trailer, parts),
+        })
+    }
+}
+
+// The frame that ends `bytes`, by the checks in their order.
 pub(crate) fn last_frame(bytes: &[u8]) -> Result<Last<'_>, Cause>
-    ensures value { λ r. ⌜ seen r ≡ lastOf (now (bytes .entry)) ⌝ }
-    ensures made { λ r. ⌜ made r (λ l. Behind (now (bytes .entry)) (l .rest .now) (partsOf (l .content))) ⌝ }
+    ensures { λ r. ⌜ seen r ≡ checked (now (bytes .entry)) (trailerOf (now (bytes .entry))) ⌝ }
 {
     let trailer = Trailer::read(bytes)?;
-    if !trailer.is_within_limits() {
-        return Err(Cause::OverLimit);
-    }
-    let end = bytes.len() - TRAILER_LEN;
-    let span = trailer.span();
-    if span > end {
-        return Err(Cause::Overrun);
-    }
-    let start = end - span;
-    Ok(Last {
-        rest: &bytes[0..start],
-        content: Content::cut(trailer, &bytes[start..end]),
-    })
+    let (before, _) = bytes.split_at(bytes.len() - TRAILER_LEN);
+    Last::cut(trailer, before)
 }

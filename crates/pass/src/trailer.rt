@@ -1,8 +1,9 @@
 // The eight bytes that end a frame: they point back over its parts.
 ghost use mathlib.Core.Path.{_≡_};
-ghost use Prim.Native.Nat.{_+_, _^_, _<_};
+ghost use Prim.Native.Nat.{_≤_};
+ghost use lib.ListN.{length};
 ghost use Rattle.pass.specs.Layout.{span, withinLimits};
-ghost use Rattle.pass.specs.Reading.{trailerOf, Ends};
+ghost use Rattle.pass.specs.Reading.{trailerOf};
 ghost use Rattle.std.specs.Vec.{made};
 use wire::fault::Cause;
 use wire::kind::Kind;
@@ -28,7 +29,7 @@ impl Trailer {
     // The trailer that ends `bytes`.
     pub(crate) fn read(bytes: &[u8]) -> Result<Trailer, Cause>
         ensures value { λ r. ⌜ r ≡ trailerOf (now (bytes .entry)) ⌝ }
-        ensures made { λ r. ⌜ made r (λ t. Ends (now (bytes .entry)) t) ⌝ }
+        ensures long { λ r. ⌜ made r (λ _. 8 ≤ length (now (bytes .entry))) ⌝ }
     {
         let [
             ..,

@@ -1,13 +1,13 @@
 // The calls of a walk.
-ghost use Prim.Native.Nat.{ℕ, _<_};
+ghost use Prim.Native.Nat.{ℕ, _+_, _-_, _≤_};
 ghost use mathlib.Core.List.{List, []};
 ghost use mathlib.Core.Path.{_≡_};
 ghost use lib.ListN.{length};
 ghost use Rattle.std.specs.Vec.{made};
 ghost use Rattle.pass.specs.Layout.{Behind};
 ghost use Rattle.pass.specs.Reading.{lastOf};
-ghost use Rattle.pass.specs.Walking.{Handed as TheHanded, start, handed, answer, next, locate, Steps};
-ghost use Rattle.pass.specs.View.{partsOf, seen, told, pointOf};
+ghost use Rattle.pass.specs.Walking.{Handed as TheHanded, start, handed, handOut, answer, move, next, Steps};
+ghost use Rattle.pass.specs.View.{partsOf, seen, handedIn, told, pointOf};
 ghost use Rattle.pass.specs.Runs.{handedOut, Walks, Whole};
 use super::Walk;
 use crate::frame::Frame;
@@ -54,22 +54,41 @@ impl<'a> Walk<'a> {
         ensures rule { λ r. ⌜ ((file : List ℕ) (fs : List TheHanded) → Walks file fs (pointOf (now (self .entry))) → Whole file fs (told r)) ⌝ }
         ensures stays { λ r. ⌜ (((f : TheHanded) → told r ≡ handed f → ⊥) → answer (pointOf (now (self .exit))) ≡ told r) ⌝ }
     {
-        let whole = self.rest.len();
-        if whole == 0 {
+        if self.rest.is_empty() {
             return Ok(None);
         }
-        let last = at(located(self.rest), self.number)?;
-        let frame = Frame::new(last, self.number, whole - last.rest.len());
+        let number = self.number;
+        let frame = at(self.take_last(), number)?;
+        Ok(Some(frame))
+    }
+
+    // Takes the last frame off the rest. A refusal leaves the walk as it is.
+    fn take_last(&mut self) -> Result<Frame<'a>, FrameFault>
+        ensures value { λ r. ⌜ handedIn r ≡ handOut (pointOf (now (self .entry))) (lastOf (pointOf (now (self .entry)) .rest)) ⌝ }
+        ensures after { λ _. ⌜ pointOf (now (self .exit)) ≡ move (pointOf (now (self .entry))) (lastOf (pointOf (now (self .entry)) .rest)) ⌝ }
+        ensures ends { λ r. ⌜ made r (λ f. Behind (pointOf (now (self .entry)) .rest) (pointOf (now (self .exit)) .rest) (partsOf (f .content))) ⌝ }
+    {
+        let last = located(self.rest)?;
+        let len = self.rest.len() - last.rest.len();
+        let frame = Frame::new(last, self.number, len);
         self.rest = last.rest;
         self.number += 1;
-        Ok(Some(frame))
+        Ok(frame)
     }
 }
 
-// The frame that ends `bytes`, with the place of its trailer in a fault: 0 if there is no whole trailer.
-fn located(bytes: &[u8]) -> Result<Last<'_>, FrameFault>
-    ensures value { λ r. ⌜ seen r ≡ locate (length (now (bytes .entry))) (lastOf (now (bytes .entry))) ⌝ }
-    ensures made { λ r. ⌜ made r (λ l. Behind (now (bytes .entry)) (l .rest .now) (partsOf (l .content))) ⌝ }
+// The place of the trailer that ends `bytes`: 0 if they are too few for one.
+fn trailer_place(bytes: &[u8]) -> usize
+    ensures { λ r. ⌜ r ≡ length (now (bytes .entry)) - 8 ⌝ }
 {
-    Ok(at(last_frame(bytes), bytes.len().saturating_sub(TRAILER_LEN))?)
+    bytes.len().saturating_sub(TRAILER_LEN)
+}
+
+// The frame that ends `bytes`, or what is wrong with it and where its trailer is.
+fn located(bytes: &[u8]) -> Result<Last<'_>, FrameFault>
+    ensures value { λ r. ⌜ seen r ≡ lastOf (now (bytes .entry)) ⌝ }
+    ensures ends { λ r. ⌜ made r (λ l. Behind (now (bytes .entry)) (l .rest .now) (partsOf (l .content))) ⌝ }
+    ensures shorter { λ r. ⌜ made r (λ l. length (l .rest .now) + 8 ≤ length (now (bytes .entry))) ⌝ }
+{
+    Ok(at(last_frame(bytes), trailer_place(bytes))?)
 }
