@@ -6,7 +6,7 @@ use Prim.Native.Nat.{ℕ, zero, suc, _+_, _≤_, _<_}
 use native.Mathlib.Omega.{arith}
 use lib.Dec.{ltb}
 use lib.ListN.{length}
-use Rattle.std.proofs.shelf.Tests.{cond-true, cond-false, lt-ltb, le-ltb}
+use Rattle.std.proofs.shelf.Tests.{cond-true, cond-false, le-ltb}
 use Rattle.std.specs.Joined.{joined}
 use Rattle.pass.specs.Layout.{Parts, encoded, EndToEnd}
 use Rattle.pass.specs.Walking.{Point, start, Handed, answer, next}
@@ -17,13 +17,13 @@ use Rattle.pass.proofs.Whole.{size-of}
 use Rattle.listing.specs.Lines.{endText, faultText}
 use Rattle.listing.specs.Listing.{inputMax, line, frameLine, told, lines, listing, frameLines}
 
-pub too-long : (file : List ℕ) → inputMax < length file → listing file ≡ line (faultText 14 inputMax)
+pub too-long : (file : List ℕ) → ltb inputMax (length file) ≡ true → listing file ≡ line (faultText 14 inputMax)
 unfolding listing
-too-long file h = cond-true _ _ _ (lt-ltb inputMax (length file) h)
+too-long file h = cond-true _ _ _ h
 
-pub walked : (file : List ℕ) → length file ≤ inputMax → listing file ≡ lines (length file + 1) (start file)
+pub walked : (file : List ℕ) → ltb inputMax (length file) ≡ false → listing file ≡ lines (length file + 1) (start file)
 unfolding listing
-walked file h = cond-false _ _ _ (le-ltb inputMax (length file) h)
+walked file h = cond-false _ _ _ h
 
 all-lines : (turns : ℕ) (w : Point) (ps : List Parts)
     → length (w .rest) < turns
@@ -49,6 +49,6 @@ all-lines (suc turns) w (p ∷ ps) h e =
 pub whole-lines : (file : List ℕ) (ps : List Parts) → EndToEnd file ps → length file ≤ inputMax → listing file ≡ frameLines ps
 whole-lines file ps e h =
     let n : 0 + length ps ≡ length ps = omega arith in
-    walked file h
+    walked file (le-ltb inputMax (length file) h)
     ∙ all-lines (length file + 1) (start file) ps (omega arith) e
     ∙ ap (λ k. joined frameLine (numbered 0 ps) ++ line (endText k)) n

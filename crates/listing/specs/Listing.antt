@@ -9,7 +9,7 @@ use Rattle.std.specs.Joined.{joined}
 use Rattle.wire.specs.Kinds.{kindNumber}
 use Rattle.pass.specs.Layout.{Parts, EndToEnd}
 use Rattle.pass.specs.Walking.{Point, start, Handed, Told, none, handed, refused, answer, next}
-use Rattle.pass.specs.Runs.{numbered}
+use Rattle.pass.specs.Runs.{Walks, numbered}
 use Rattle.listing.specs.Lines.{frameText, endText, faultText}
 
 abbrev pub inputMax : ℕ
@@ -35,6 +35,15 @@ lines (suc turns) w = told (answer w) w (lines turns (next w))
 -- a file has fewer frames than turns
 unfoldable pub listing : List ℕ → List ℕ
 listing file = cond (ltb inputMax (length file)) (line (faultText 14 inputMax)) (lines (length file + 1) (start file))
+
+-- The same over the runs of the walk: the lines of the frames that its calls hand out, and the line of the answer at
+-- which they hand out no more
+pub record Lists (file text : List ℕ) : Type 0 where
+  pub frames : List Handed
+  pub end : Point
+  pub run : Walks file frames end
+  pub last : (f : Handed) → answer end ≡ handed f → ⊥
+  pub lines : text ≡ joined frameLine frames ++ told (answer end) end []
 
 -- the listing of a file that is frames end to end: their lines, and their count
 abbrev pub frameLines : List Parts → List ℕ

@@ -68,12 +68,14 @@ impl<'a> Walk<'a> {
         ensures after { λ _. ⌜ pointOf (now (self .exit)) ≡ move (pointOf (now (self .entry))) (lastOf (pointOf (now (self .entry)) .rest)) ⌝ }
         ensures ends { λ r. ⌜ made r (λ f. Behind (pointOf (now (self .entry)) .rest) (pointOf (now (self .exit)) .rest) (partsOf (f .content))) ⌝ }
     {
-        let last = located(self.rest)?;
-        let len = self.rest.len() - last.rest.len();
-        let frame = Frame::new(last, self.number, len);
-        self.rest = last.rest;
-        self.number += 1;
-        Ok(frame)
+        let rest = self.rest;
+        let number = self.number;
+        let last = located(rest)?;
+        *self = Walk {
+            rest: last.rest,
+            number: number + 1,
+        };
+        Ok(Frame::new(last, number, rest.len() - last.rest.len()))
     }
 }
 
