@@ -14,7 +14,7 @@ Kinds: 0 idle, 1 AES-128, 2 PRESENT-80, 3 bench.
 The last line is 'end' and the count of frames, or 'fault', its number and the
 bytes that are left. At most 65536 bytes are listed.";
 
-// Any input has a listing, so one byte more than the longest is enough to read.
+// One byte past the longest input tells that it is too long, however long it is.
 const READ_MAX: u64 = INPUT_MAX as u64 + 1;
 
 fn list(rt: &LibcRuntime) -> Result<(), AnyError> {
@@ -34,9 +34,13 @@ fn run(rt: &LibcRuntime) -> Result<(), AnyError> {
         rt.println(HELP)?;
         return Ok(());
     }
-    Err("lister takes a pass file on standard input and no argument but --help".into())
+    Err("it takes a pass file on standard input, and no argument but --help".into())
 }
 
 fn main(rt: LibcRuntime) -> Result<(), AnyError> {
-    rt.report(run(&rt))
+    let outcome = run(&rt);
+    if let Err(error) = &outcome {
+        eprintln!(rt, "lister: {error}")?;
+    }
+    outcome
 }

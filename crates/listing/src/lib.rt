@@ -1,3 +1,3 @@
 // The listing of a pass file as text: a line for each frame in walk order, and a last line that says how it ended.
-pub mod line;
+mod line;
 pub mod list;

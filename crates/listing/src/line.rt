@@ -8,7 +8,7 @@ use wire::fault::ListFault;
 
 // A frame's line: its number, kind, place and length.
 #[derive(Clone, Copy)]
-pub struct Line {
+pub(crate) struct Line {
     pub(crate) number: usize,
     pub(crate) kind: u8,
     pub(crate) place: usize,
@@ -44,7 +44,7 @@ pub impl fmt::Display for Line as LineDisplay {
 
 // The last line: how many frames there were, or what ended the listing, and the bytes left then.
 #[derive(Clone, Copy)]
-pub enum Ending {
+pub(crate) enum Ending {
     End { count: usize },
     Fault { fault: ListFault, left: usize },
 }

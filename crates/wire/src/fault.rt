@@ -66,8 +66,8 @@ impl Cause {
 pub impl From<RecordFault> for Cause as CauseFromRecord {
     ghost converts = { λ e r. r ≡ InRecord e };
 
-    fn from(fault: RecordFault) -> Cause {
-        Cause::Record(fault)
+    fn from(record: RecordFault) -> Cause {
+        Cause::Record(record)
     }
 }
 
@@ -132,8 +132,8 @@ impl ListFault {
 pub impl From<PassFault> for ListFault as ListFaultFromPass {
     ghost converts = { λ e r. r ≡ InPass e };
 
-    fn from(fault: PassFault) -> ListFault {
-        ListFault::Pass(fault)
+    fn from(pass: PassFault) -> ListFault {
+        ListFault::Pass(pass)
     }
 }
 
