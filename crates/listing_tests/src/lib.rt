@@ -1,5 +1,10 @@
-// Tests of the listing and of the walk: tables of inputs with what is to come of them.
+// Tests of the listing, the walk and the faults.
 #[cfg(test)]
 mod cases;
 #[cfg(test)]
+mod faults;
+#[cfg(test)]
 mod parts;
+
+#[cfg(test)]
+mod speed;

@@ -17,7 +17,7 @@ use wire::kind::Suite;
 use wire::kind::SuiteDebug;
 use wire::kind::SuitePartialEq;
 
-// An idle frame with fill 55 56, and a bench frame with one byte of nonce and of body.
+// An idle frame with fill 55 56, and a bench frame with a byte each of nonce, header and body.
 const FILE: [u8; 25] = [
     0x55,
     0x56,
@@ -71,7 +71,7 @@ fn sealed_parts() -> Result<(), Fail> {
 }
 
 #[test]
-fn idle_fill_and_none() -> Result<(), Fail> {
+fn idle_fill() -> Result<(), Fail> {
     let mut walk = Walk::new(&FILE[0..10]);
     let Ok(Some(frame)) = walk.next_frame() else {
         return Err(Fail::new("no frame"));
@@ -80,33 +80,23 @@ fn idle_fill_and_none() -> Result<(), Fail> {
         return Err(Fail::new("not idle"));
     };
     check_eq(fill, &[0x55, 0x56])?;
-    for _ in 0..2 {
-        check(matches!(walk.next_frame(), Ok(None)))?;
-    }
+    check(matches!(walk.next_frame(), Ok(None))).note("none at the file's start")?;
+    check(matches!(walk.next_frame(), Ok(None))).note("none again")?;
     check_eq((walk.left(), walk.count()), (0, 1))
 }
 
-// The file less its first byte: the idle frame's fill is cut short.
+// The idle frame less its first byte: its parts are longer than what stands before its trailer.
 #[test]
 fn fault_stays() -> Result<(), Fail> {
-    let mut walk = Walk::new(&FILE[1..25]);
-    check(walk.next_frame().is_ok())?;
-    for _ in 0..2 {
-        let Err(fault) = walk.next_frame() else {
-            return Err(Fail::new("not refused"));
-        };
-        let place = 1;
-        check_eq(
-            fault,
-            PassFault {
-                fault: FrameFault {
-                    cause: Cause::Overrun,
-                    place,
-                },
-                frame: 1,
-            },
-        )?;
-        check_eq((fault.number(), walk.left()), (11, 9))?;
-    }
-    Ok(())
+    let mut walk = Walk::new(&FILE[1..10]);
+    let fault = PassFault {
+        fault: FrameFault {
+            cause: Cause::Overrun,
+            place: 1,
+        },
+        frame: 0,
+    };
+    check_eq(walk.next_frame().err(), Some(fault))?;
+    check_eq(walk.next_frame().err(), Some(fault)).note("the same again")?;
+    check_eq((fault.number(), walk.left()), (11, 9))
 }
