@@ -15,7 +15,7 @@ use Rattle.pass.proofs.Answered.{none-answered, frame-answered, frame-passed}
 use Rattle.pass.proofs.RoundTrip.{shorter}
 use Rattle.pass.proofs.Whole.{size-of}
 use Rattle.listing.specs.Lines.{endText, faultText}
-use Rattle.listing.specs.Listing.{inputMax, line, frameLine, told, lines, listing, frameLines}
+use Rattle.listing.specs.Listing.{inputMax, line, frameLine, linesAt, lines, listing, frameLines}
 
 pub too-long : (file : List ℕ) → ltb inputMax (length file) ≡ true → listing file ≡ line (faultText 14 inputMax)
 unfolding listing
@@ -32,14 +32,14 @@ all-lines : (turns : ℕ) (w : Point) (ps : List Parts)
 all-lines zero w ps h e = absurd (omega arith)
 all-lines (suc turns) w [] h e =
     let n : w .number ≡ w .number + 0 = omega arith in
-    ap (λ r. told r w (lines turns (next w))) (none-answered w e) ∙ ap (λ k. line (endText k)) n
+    ap (λ r. linesAt r w (lines turns (next w))) (none-answered w e) ∙ ap (λ k. line (endText k)) n
 all-lines (suc turns) w (p ∷ ps) h e =
     let rest = e .0 in
     let v : Point = record { rest = rest; number = w .number + 1 } in
     let f : ℕ → Handed = λ k. record { parts = p; number = w .number; place = k; len = length (encoded p) } in
     let n : w .number + 1 + length ps ≡ w .number + suc (length ps) = omega arith in
     let more = joined frameLine (numbered (w .number + 1) ps) in
-    ap (λ r. told r w (lines turns (next w))) (frame-answered w rest p (e .1))
+    ap (λ r. linesAt r w (lines turns (next w))) (frame-answered w rest p (e .1))
     ∙ ap (λ u. frameLine (f (length rest)) ++ lines turns u) (frame-passed w rest p (e .1))
     ∙ ap (λ ls. frameLine (f (length rest)) ++ ls) (all-lines turns v ps (omega (arith, shorter (w .rest) rest p (e .1))) (e .2))
     ∙ ap (λ k. frameLine (f k) ++ (more ++ line (endText (w .number + 1 + length ps)))) (size-of rest ps (e .2))

@@ -9,7 +9,7 @@ use Rattle.std.specs.Joined.{joined}
 use Rattle.pass.specs.Runs.{Walks, called}
 use Rattle.pass.specs.Walking.{Point, start, Handed, Told, handed, answer, next, Steps}
 use Rattle.pass.proofs.RoundTrip.{shorter}
-use Rattle.listing.specs.Listing.{frameLine, told, lines, Lists}
+use Rattle.listing.specs.Listing.{frameLine, linesAt, lines, Lists}
 
 -- `before` stood there first, `text` is what is written by now, and the walk is at w
 pub record Sofar (before file text : List ℕ) (w : Point) : Type 0 where
@@ -35,9 +35,9 @@ begun before file w e run =
 next-lines : (turns : ℕ) (w : Point) (r : Told)
     → length (w .rest) < turns
     → r ≡ answer w
-    → (more : ℕ) × (turns ≡ suc more) × (lines turns w ≡ told r w (lines more (next w)))
+    → (more : ℕ) × (turns ≡ suc more) × (lines turns w ≡ linesAt r w (lines more (next w)))
 next-lines zero w r h e = absurd (omega arith)
-next-lines (suc turns) w r h e = (turns, refl, ap (λ x. told x w (lines turns (next w))) (sym e))
+next-lines (suc turns) w r h e = (turns, refl, ap (λ x. linesAt x w (lines turns (next w))) (sym e))
 
 module _ {before file text : List ℕ} {w : Point} (old : Sofar before file text w) where
   -- a frame's line is written
@@ -66,7 +66,7 @@ module _ {before file text : List ℕ} {w : Point} (old : Sofar before file text
   pub ended : (r : Told) (last : List ℕ)
       → r ≡ answer w
       → ((f : Handed) → r ≡ handed f → ⊥)
-      → ((more : List ℕ) → told r w more ≡ last)
+      → ((more : List ℕ) → linesAt r w more ≡ last)
       → (text ++ last ≡ before ++ lines (length file + 1) (start file))
       × ((more : List ℕ) × (text ≡ before ++ more) × Lists file (more ++ last))
   ended r last value no-frame is =
@@ -80,7 +80,7 @@ module _ {before file text : List ℕ} {w : Point} (old : Sofar before file text
             end = w;
             run = old .run;
             last = λ f e. no-frame f (value ∙ e);
-            lines = ap (λ l. joined frameLine (old .frames) ++ l) (sym (is []) ∙ ap (λ x. told x w []) value);
+            lines = ap (λ l. joined frameLine (old .frames) ++ l) (sym (is []) ∙ ap (λ x. linesAt x w []) value);
           },
         ),
       )

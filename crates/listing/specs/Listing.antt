@@ -22,15 +22,15 @@ abbrev pub frameLine : Handed → List ℕ
 frameLine f = line (frameText (f .number) (kindNumber (f .parts .kind)) (f .place) (f .len))
 
 -- the line that an answer gives at a point; after a frame come more lines
-abbrev pub told : Told → Point → (more : List ℕ) → List ℕ
-told none w more = line (endText (w .number))
-told (handed f) w more = frameLine f ++ more
-told (refused fault _ _) w more = line (faultText fault (length (w .rest)))
+abbrev pub linesAt : Told → Point → (more : List ℕ) → List ℕ
+linesAt none w more = line (endText (w .number))
+linesAt (handed f) w more = frameLine f ++ more
+linesAt (refused fault _ _) w more = line (faultText fault (length (w .rest)))
 
 -- the lines of a walk from a point on; each turn but the last hands out a frame
 abbrev pub lines : (turns : ℕ) → Point → List ℕ
 lines zero w = []
-lines (suc turns) w = told (answer w) w (lines turns (next w))
+lines (suc turns) w = linesAt (answer w) w (lines turns (next w))
 
 -- a file has fewer frames than turns
 unfoldable pub listing : List ℕ → List ℕ
@@ -43,7 +43,7 @@ pub record Lists (file text : List ℕ) : Type 0 where
   pub end : Point
   pub run : Walks file frames end
   pub last : (f : Handed) → answer end ≡ handed f → ⊥
-  pub lines : text ≡ joined frameLine frames ++ told (answer end) end []
+  pub lines : text ≡ joined frameLine frames ++ linesAt (answer end) end []
 
 -- the listing of a file that is frames end to end: their lines, and their count
 abbrev pub frameLines : List Parts → List ℕ

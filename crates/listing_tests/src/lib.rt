@@ -5,6 +5,5 @@ mod cases;
 mod faults;
 #[cfg(test)]
 mod parts;
-
 #[cfg(test)]
 mod speed;

@@ -10,8 +10,9 @@ use Rattle.std.proofs.shelf.Lists.{length-append, nil-from-length}
 use Rattle.std.proofs.shelf.Tests.{cond-true, cond-false, eq-eqb, ne-eqb}
 use Rattle.std.specs.declared.result.Result.{Result}
 use Rattle.std.specs.declared.result.Result.the-variants.{Ok, Err}
+use Rattle.wire.specs.Faults.{causeNumber}
 use Rattle.wire.specs.declared.fault.FrameFault.{FrameFault}
-use Rattle.pass.specs.Layout.{encoded, Behind}
+use Rattle.pass.specs.Layout.{encoded, Behind, Refusal}
 use Rattle.pass.specs.Reading.{Cut, lastOf}
 use Rattle.pass.specs.Walking.{Point, Handed, Told, none, handed, refused, handOut, tell, answer, move, next, Steps}
 use Rattle.pass.specs.Runs.{handedOut, Walks, called, Whole}
@@ -68,8 +69,9 @@ module _ (w : Point) where
     pub refuses : (e : FrameFault) (v : Point)
         → Err e ≡ handOut w (lastOf (w .rest))
         → v ≡ move w (lastOf (w .rest))
+        → Refusal (w .rest) (causeNumber (e .cause))
         → Promise w (tell (w .number) (Err e)) v
-    refuses e v h m =
+    refuses e v h m why =
         let found = not-cut w (lastOf (w .rest)) e h in
         let stays : v ≡ w = m ∙ ap (move w) found in
         promise w _ v
@@ -77,6 +79,7 @@ module _ (w : Point) where
         (m ∙ sym (cond-false _ _ _ left))
         (record {
           left = omega (arith, some);
+          why = why;
           apart = λ rest p. no-frame (w .rest) rest p e found;
           place = refused-at (w .rest) e found;
           frame = refl;

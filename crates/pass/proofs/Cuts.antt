@@ -8,19 +8,20 @@ use native.Mathlib.Omega.{arith}
 use lib.Dec.{eqb, leb}
 use lib.ListN.{length, getD, take, drop}
 use Rattle.std.proofs.shelf.Lists.{length-take, length-drop, take-append-drop, take-all, drop-all}
-use Rattle.std.proofs.shelf.Tests.{and-parts, eqb-true, cond-true, le-leb, leb-true}
+use Rattle.std.proofs.shelf.Tests.{and-parts, eqb-true, cond-true, le-leb, leb-true, leb-false}
 use Rattle.std.specs.declared.result.Result.{Result}
 use Rattle.std.specs.declared.result.Result.the-variants.{Ok, Err}
 use Rattle.wire.specs.declared.fault.FrameFault.{FrameFault}
 use Rattle.wire.specs.declared.fault.Cause.{Cause}
 use Rattle.wire.specs.declared.fault.Cause.the-variants.{OverLimit, Overrun}
+use Rattle.wire.specs.Faults.{causeNumber}
 use Rattle.wire.specs.Limits.{headerMax, messageMax}
 use Rattle.wire.specs.declared.kind.Kind.{Kind}
 use Rattle.wire.specs.declared.kind.Kind.the-variants.{Idle}
 use Rattle.pass.specs.declared.trailer.Trailer.{Trailer}
-use Rattle.pass.specs.Layout.{Parts, lengths, trailerBytes, span, takes, withinLimits, encoded, Lawful, Behind}
+use Rattle.pass.specs.Layout.{Parts, lengths, trailerBytes, span, takes, withinLimits, encoded, Lawful, Behind, Refusal, overLimit, overrun}
 use Rattle.pass.specs.Reading.{trailerOf, Cut, partsAt, cutAt, checked, locate, lastOf}
-use Rattle.pass.proofs.Trailers.{Ends, ends}
+use Rattle.pass.proofs.Trailers.{Ends, ends, why-trailer}
 
 located : (n : ℕ) (found : Result Cut Cause) (cut : Cut) → locate n found ≡ Ok cut → found ≡ Ok cut
 located n (Ok c) cut e = cc
@@ -116,14 +117,46 @@ module _ (bs : List ℕ) (small : (i : ℕ) → getD bs i 0 < 256) where
   unfolding lastOf
   sound cut e = by-trailer cut (trailerOf bs) refl (located (length bs) (checked bs (trailerOf bs)) cut e)
 
+located-err : (n : ℕ) (found : Result Cut Cause) (e : FrameFault)
+    → locate n found ≡ Err e
+    → (found ≡ Err (e .cause)) × (e .place ≡ n - 8)
+located-err n (Ok c) e h = let z : _≡_ {A = ℕ} 0 1 = cc in absurd (omega arith)
+located-err n (Err c) e h =
+    let same : record { cause = c; place = n - 8 } ≡ e = cc in
+    (ap (λ x. Err (x .cause)) same, ap (λ x. x .place) (sym same))
+
 -- a refusal tells the trailer's place
 pub refused-at : (bs : List ℕ) (e : FrameFault) → lastOf bs ≡ Err e → e .place ≡ length bs - 8
 unfolding lastOf
-refused-at bs e h = by-cause (checked bs (trailerOf bs)) h
-  where
-    by-cause : (found : Result Cut Cause) → locate (length bs) found ≡ Err e → e .place ≡ length bs - 8
-    by-cause (Ok c) h = let z : _≡_ {A = ℕ} 0 1 = cc in absurd (omega arith)
-    by-cause (Err c) h = let same : record { cause = c; place = length bs - 8 } ≡ e = cc in ap (λ x. x .place) (sym same)
+refused-at bs e h = located-err (length bs) (checked bs (trailerOf bs)) e h .1
+
+module _ (bs : List ℕ) (small : (i : ℕ) → getD bs i 0 < 256) where
+  why-limits : (t : Trailer) (c : Cause) (within fits : Bool)
+      → trailerOf bs ≡ Ok t
+      → withinLimits t ≡ within
+      → leb (span t) (length (take (length bs - 8) bs)) ≡ fits
+      → cond within (cond fits (Ok (cutAt t (take (length bs - 8) bs))) (Err Overrun)) (Err OverLimit) ≡ Err c
+      → Refusal bs (causeNumber c)
+  why-limits t c false _ r w f e =
+      let same : OverLimit ≡ c = cc in
+      subst (λ d. Refusal bs (causeNumber d)) same (overLimit (take (length bs - 8) bs) t (ends bs small t r .bytes) w)
+  why-limits t c true false r w f e =
+      let same : Overrun ≡ c = cc in
+      subst (λ d. Refusal bs (causeNumber d)) same
+      (overrun (take (length bs - 8) bs) t (ends bs small t r .bytes) w (leb-false (span t) (length (take (length bs - 8) bs)) f))
+  why-limits t c true true r w f e = let z : _≡_ {A = ℕ} 0 1 = cc in absurd (omega arith)
+
+  why-cut : (c : Cause) (trailer : Result Trailer Cause)
+      → trailerOf bs ≡ trailer
+      → checked bs trailer ≡ Err c
+      → Refusal bs (causeNumber c)
+  why-cut c (Err d) r e = let same : d ≡ c = cc in subst (λ x. Refusal bs (causeNumber x)) same (why-trailer bs d r)
+  why-cut c (Ok t) r e = why-limits t c (withinLimits t) (leb (span t) (length (take (length bs - 8) bs))) r refl refl e
+
+  -- a refusal by the definition has the number of the first check that applies
+  pub why : (e : FrameFault) → lastOf bs ≡ Err e → Refusal bs (causeNumber (e .cause))
+  unfolding lastOf
+  why e h = why-cut (e .cause) (trailerOf bs) refl (located-err (length bs) (checked bs (trailerOf bs)) e h .0)
 
 zeros : (x y z : ℕ) → (eqb x 0 && (eqb y 0 && eqb z 0)) ≡ true → (x ≡ 0) × (y ≡ 0) × (z ≡ 0)
 zeros x y z h =

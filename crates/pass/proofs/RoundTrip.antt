@@ -16,8 +16,8 @@ use Rattle.wire.specs.Kinds.{kindOf}
 use Rattle.wire.specs.declared.fault.FrameFault.{FrameFault}
 use Rattle.wire.proofs.Listed.{listed}
 use Rattle.pass.specs.declared.trailer.Trailer.{Trailer}
-use Rattle.pass.specs.Layout.{Parts, lengths, trailerBytes, span, encoded, Lawful, Behind}
-use Rattle.pass.specs.Reading.{back, fieldsOf, trailerOf, Cut, partsAt, cutAt, lastOf}
+use Rattle.pass.specs.Layout.{back, Parts, lengths, trailerBytes, span, encoded, Lawful, Behind}
+use Rattle.pass.specs.Reading.{fieldsOf, trailerOf, Cut, partsAt, cutAt, lastOf}
 use Rattle.pass.proofs.Cuts.{accepted}
 
 -- a byte of the last of two lists

@@ -9,18 +9,20 @@ use lib.Arith.{digits-div, digits-mod}
 use lib.Dec.{eqb, ltb}
 use lib.ListN.{length, getD, take, drop}
 use Rattle.std.proofs.shelf.Lists.{drop-all, drop-more, take-append-drop}
-use Rattle.std.proofs.shelf.Tests.{eqb-true, ltb-false}
+use Rattle.std.proofs.shelf.Tests.{eqb-true, eqb-false, ltb-true, ltb-false}
 use Rattle.std.specs.declared.option.Option.{Option}
 use Rattle.std.specs.declared.option.Option.the-variants.{Some, None}
 use Rattle.std.specs.declared.result.Result.the-variants.{Ok, Err}
 use Rattle.wire.specs.Kinds.{kindNumber, kindOf}
 use Rattle.wire.specs.Limits.{nonceMax}
-use Rattle.wire.specs.declared.fault.Cause.the-variants.{Short, NoMark}
+use Rattle.wire.specs.Faults.{causeNumber}
+use Rattle.wire.specs.declared.fault.Cause.{Cause}
+use Rattle.wire.specs.declared.fault.Cause.the-variants.{Short, NoMark, UnknownKind}
 use Rattle.wire.specs.declared.kind.Kind.{Kind}
-use Rattle.wire.proofs.Listed.{found}
+use Rattle.wire.proofs.Listed.{found, listed}
 use Rattle.pass.specs.declared.trailer.Trailer.{Trailer}
-use Rattle.pass.specs.Layout.{trailerBytes}
-use Rattle.pass.specs.Reading.{back, fieldsOf, trailerOf}
+use Rattle.pass.specs.Layout.{back, trailerBytes, Refusal, short, unmarked, unknown}
+use Rattle.pass.specs.Reading.{fieldsOf, trailerOf}
 
 -- some bytes end in this trailer
 pub record Ends (bs : List ℕ) (t : Trailer) : Type 0 where
@@ -84,3 +86,28 @@ module _ (bs : List ℕ) (small : (i : ℕ) → getD bs i 0 < 256) where
 
   pub ends : (t : Trailer) → trailerOf bs ≡ Ok t → Ends bs t
   ends t = by-checks t (ltb (length bs) 8) (eqb (back bs 1) 0xA7) (kindOf (back bs 2)) refl refl refl
+
+-- no kind has a number that is not in the list
+no-kind : (b : ℕ) → kindOf b ≡ None → (k : Kind) → kindNumber k ≡ b → ⊥
+no-kind b none k e = let some = listed k in let same = ap kindOf e in let z : _≡_ {A = ℕ} 0 1 = cc in omega arith
+
+-- a trailer that is not read: the check that refuses it
+why-checks : (bs : List ℕ) (c : Cause) (cut marked : Bool) (kind : Option Kind)
+    → ltb (length bs) 8 ≡ cut
+    → eqb (back bs 1) 0xA7 ≡ marked
+    → kindOf (back bs 2) ≡ kind
+    → cond cut (Err Short) (cond marked (fieldsOf bs kind) (Err NoMark)) ≡ Err c
+    → Refusal bs (causeNumber c)
+why-checks bs c true _ _ s m k e =
+    let same : Short ≡ c = cc in subst (λ d. Refusal bs (causeNumber d)) same (short (ltb-true (length bs) 8 s))
+why-checks bs c false false _ s m k e =
+    let same : NoMark ≡ c = cc in
+    subst (λ d. Refusal bs (causeNumber d)) same (unmarked (ltb-false (length bs) 8 s) (eqb-false (back bs 1) 0xA7 m))
+why-checks bs c false true None s m k e =
+    let same : UnknownKind ≡ c = cc in
+    subst (λ d. Refusal bs (causeNumber d)) same
+    (unknown (ltb-false (length bs) 8 s) (eqb-true (back bs 1) 0xA7 m) (no-kind (back bs 2) k))
+why-checks bs c false true (Some kind) s m k e = let z : _≡_ {A = ℕ} 0 1 = cc in absurd (omega arith)
+
+pub why-trailer : (bs : List ℕ) (c : Cause) → trailerOf bs ≡ Err c → Refusal bs (causeNumber c)
+why-trailer bs c = why-checks bs c (ltb (length bs) 8) (eqb (back bs 1) 0xA7) (kindOf (back bs 2)) refl refl refl

@@ -75,9 +75,9 @@ sofar file fs w begun = record { sound = λ ps e. (ps, e, refl); complete = λ q
 sofar file fs w (called {fs = gs} {w = u} run r s) = after file gs u w r (sofar file gs u run) s
 
 -- where the walk refuses, the rest is no frames end to end
-no-list : (w : Point) (trailer number : ℕ) (v : Point) (ps : List Parts) → Refuses w trailer number v → EndToEnd (w .rest) ps → ⊥
-no-list w _ _ v [] s e = omega (arith, s .left, ap length e)
-no-list w _ _ v (p ∷ ps) s e = s .apart (e .0) p (e .1)
+no-list : (w : Point) (fault trailer number : ℕ) (v : Point) (ps : List Parts) → Refuses w fault trailer number v → EndToEnd (w .rest) ps → ⊥
+no-list w _ _ _ v [] s e = omega (arith, s .left, ap length e)
+no-list w _ _ _ v (p ∷ ps) s e = s .apart (e .0) p (e .1)
 
 pub whole : (file : List ℕ) (fs : List Handed) (w v : Point) (r : Told) → Walks file fs w → Steps w r v → Whole file fs r
 whole file fs w v none run s =
@@ -89,4 +89,4 @@ whole file fs w v (handed f) run s = λ ps e.
       numbered (v .number) (g .0),
       p .2 ∙ ap (λ l. fs ++ numbered (w .number) l) (g .2) ∙ next-numbered fs w v f (g .0) s (g .1) ∙ append-assoc fs (f ∷ []) _,
     )
-whole file fs w v (refused _ _ _) run s = λ ps e. let p = sofar file fs w run .complete ps e in no-list w _ _ v (p .0) s (p .1)
+whole file fs w v (refused _ _ _) run s = λ ps e. let p = sofar file fs w run .complete ps e in no-list w _ _ _ v (p .0) s (p .1)

@@ -1,15 +1,19 @@
 -- What a frame is: its parts, the trailer that points back over them, the limits. Assumes nothing.
-use mathlib.Core.Bool.{Bool, _&&_, true}
+use mathlib.Core.Bool.{Bool, _&&_, true, false}
 use mathlib.Core.List.{List, [], _∷_, _++_}
 use mathlib.Core.Path.{_≡_}
-use Prim.Native.Nat.{ℕ, _+_, _/_, _%_, _≤_}
+use Prim.Native.Nat.{ℕ, _+_, _-_, _/_, _%_, _≤_, _<_}
 use lib.Dec.{eqb, leb}
-use lib.ListN.{length}
+use lib.ListN.{length, getD}
 use Rattle.wire.specs.Kinds.{kindNumber, blockLen}
 use Rattle.wire.specs.Limits.{nonceMax, headerMax, messageMax, isTagLen}
 use Rattle.wire.specs.declared.kind.Kind.{Kind}
 use Rattle.wire.specs.declared.kind.Kind.the-variants.{Idle, Sealed}
 use Rattle.pass.specs.declared.trailer.Trailer.{Trailer}
+
+-- the k-th byte from the end
+abbrev pub back : List ℕ → ℕ → ℕ
+back bs k = getD bs (length bs - k) 0
 
 -- the parts of a frame, in their order; an idle frame has fill for a body and nothing else
 pub record Parts : Type 0 where
@@ -56,6 +60,18 @@ pub record Lawful (p : Parts) : Type 0 where
 pub record Behind (bytes rest : List ℕ) (p : Parts) : Type 0 where
   pub joined : bytes ≡ rest ++ encoded p
   pub lawful : Lawful p
+
+-- Why no lawful frame ends some bytes: the refusal's number, by the first check that applies
+pub data Refusal (bytes : List ℕ) : ℕ → Type 0 where
+  short : length bytes < 8 → Refusal bytes 7
+  unmarked : 8 ≤ length bytes → (back bytes 1 ≡ 0xA7 → ⊥) → Refusal bytes 8
+  unknown : 8 ≤ length bytes → back bytes 1 ≡ 0xA7 → ((k : Kind) → kindNumber k ≡ back bytes 2 → ⊥) → Refusal bytes 9
+  overLimit : (before : List ℕ) (t : Trailer) → bytes ≡ before ++ trailerBytes t → withinLimits t ≡ false → Refusal bytes 10
+  overrun : (before : List ℕ) (t : Trailer)
+      → bytes ≡ before ++ trailerBytes t
+      → withinLimits t ≡ true
+      → length before < span t
+      → Refusal bytes 11
 
 -- a file is these frames end to end, the last of them first
 abbrev pub EndToEnd : List ℕ → List Parts → Type 0

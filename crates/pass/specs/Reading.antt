@@ -3,7 +3,7 @@ use mathlib.Core.Bool.{cond}
 use mathlib.Core.List.{List}
 use Prim.Native.Nat.{ℕ, _+_, _-_, _*_}
 use lib.Dec.{eqb, leb, ltb}
-use lib.ListN.{length, getD, take, drop}
+use lib.ListN.{length, take, drop}
 use Rattle.std.specs.declared.option.Option.{Option}
 use Rattle.std.specs.declared.option.Option.the-variants.{Some, None}
 use Rattle.std.specs.declared.result.Result.{Result}
@@ -14,11 +14,7 @@ use Rattle.wire.specs.declared.fault.Cause.{Cause}
 use Rattle.wire.specs.declared.fault.Cause.the-variants.{Short, NoMark, UnknownKind, OverLimit, Overrun}
 use Rattle.wire.specs.declared.fault.FrameFault.{FrameFault}
 use Rattle.pass.specs.declared.trailer.Trailer.{Trailer}
-use Rattle.pass.specs.Layout.{Parts, span, withinLimits}
-
--- the k-th byte from the end
-abbrev pub back : List ℕ → ℕ → ℕ
-back bs k = getD bs (length bs - k) 0
+use Rattle.pass.specs.Layout.{back, Parts, span, withinLimits}
 
 abbrev pub fieldsOf : List ℕ → Option Kind → Result Trailer Cause
 fieldsOf bs None = Err UnknownKind

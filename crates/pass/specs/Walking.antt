@@ -9,7 +9,7 @@ use Rattle.std.specs.declared.result.Result.{Result}
 use Rattle.std.specs.declared.result.Result.the-variants.{Ok, Err}
 use Rattle.wire.specs.Faults.{causeNumber}
 use Rattle.wire.specs.declared.fault.FrameFault.{FrameFault}
-use Rattle.pass.specs.Layout.{Parts, encoded, Lawful, Behind}
+use Rattle.pass.specs.Layout.{Parts, encoded, Behind, Refusal}
 use Rattle.pass.specs.Reading.{Cut, lastOf}
 
 -- where a walk stands: the bytes that are left, and the number of the frame that ends there
@@ -71,8 +71,9 @@ pub record Hands (w : Point) (f : Handed) (v : Point) : Type 0 where
   pub next : v .number ≡ w .number + 1
 
 -- a refusal comes exactly where bytes are left and no lawful frame ends them, and the walk stays
-pub record Refuses (w : Point) (trailer number : ℕ) (v : Point) : Type 0 where
+pub record Refuses (w : Point) (fault trailer number : ℕ) (v : Point) : Type 0 where
   pub left : 0 < length (w .rest)
+  pub why : Refusal (w .rest) fault
   pub apart : (rest : List ℕ) (p : Parts) → Behind (w .rest) rest p → ⊥
   pub place : trailer ≡ length (w .rest) - 8
   pub frame : number ≡ w .number
@@ -81,4 +82,4 @@ pub record Refuses (w : Point) (trailer number : ℕ) (v : Point) : Type 0 where
 abbrev pub Steps : Point → Told → Point → Type 0
 Steps w none v = (w .rest ≡ []) × (v ≡ w)
 Steps w (handed f) v = Hands w f v
-Steps w (refused _ place frame) v = Refuses w place frame v
+Steps w (refused fault place frame) v = Refuses w fault place frame v

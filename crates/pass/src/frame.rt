@@ -80,7 +80,7 @@ impl<'a> Frame<'a> {
     }
 
     pub fn kind(&self) -> Kind
-        ensures { λ r. ⌜ r ≡ partsOf (now (self .entry) .content) .kind ⌝ }
+        ensures { λ r. ⌜ r ≡ handedOf (now (self .entry)) .parts .kind ⌝ }
     {
         match self.content {
             Content::Idle { .. } => Kind::Idle,
@@ -90,21 +90,21 @@ impl<'a> Frame<'a> {
 
     // From 0 at the file's end.
     pub fn number(&self) -> usize
-        ensures { λ r. ⌜ r ≡ now (self .entry) .number ⌝ }
+        ensures { λ r. ⌜ r ≡ handedOf (now (self .entry)) .number ⌝ }
     {
         self.number
     }
 
     // Of the frame's first byte, from the file's first.
     pub fn place(&self) -> usize
-        ensures { λ r. ⌜ r ≡ now (self .entry) .place ⌝ }
+        ensures { λ r. ⌜ r ≡ handedOf (now (self .entry)) .place ⌝ }
     {
         self.place
     }
 
     // Of the whole frame, with its trailer.
     pub fn len(&self) -> usize
-        ensures { λ r. ⌜ r ≡ now (self .entry) .len ⌝ }
+        ensures { λ r. ⌜ r ≡ handedOf (now (self .entry)) .len ⌝ }
     {
         self.len
     }

@@ -7,7 +7,7 @@ use native.Mathlib.Omega.{arith}
 use lib.Dec.{eqb}
 use Rattle.std.proofs.shelf.Tests.{eqb-true}
 use Rattle.std.specs.declared.option.Option.the-variants.{Some, None}
-use Rattle.wire.specs.Kinds.{kinds, kindNumber, numbered, kindOf}
+use Rattle.wire.specs.Kinds.{kinds, kindNumber, withNumber, kindOf}
 use Rattle.wire.specs.declared.kind.Kind.{Kind}
 use Rattle.wire.specs.declared.kind.Kind.the-variants.{Idle, Sealed}
 use Rattle.wire.specs.declared.kind.Suite.the-variants.{Aes128, Present80, Bench}
@@ -18,14 +18,14 @@ listed (Sealed Aes128) = refl
 listed (Sealed Present80) = refl
 listed (Sealed Bench) = refl
 
-found-in : (ks : List Kind) (b : ℕ) (k : Kind) → numbered ks b ≡ Some k → kindNumber k ≡ b
+found-in : (ks : List Kind) (b : ℕ) (k : Kind) → withNumber ks b ≡ Some k → kindNumber k ≡ b
 found-in [] b k e = let z : _≡_ {A = ℕ} 0 1 = cc in absurd (omega arith)
 found-in (j ∷ js) b k e = by-test (found-in js b k) (eqb b (kindNumber j)) refl e
   where
-    by-test : (numbered js b ≡ Some k → kindNumber k ≡ b)
+    by-test : (withNumber js b ≡ Some k → kindNumber k ≡ b)
         → (t : Bool)
         → eqb b (kindNumber j) ≡ t
-        → cond t (Some j) (numbered js b) ≡ Some k
+        → cond t (Some j) (withNumber js b) ≡ Some k
         → kindNumber k ≡ b
     by-test more true h f = let same : j ≡ k = cc in sym (eqb-true b (kindNumber j) h ∙ ap kindNumber same)
     by-test more false h f = more f

@@ -28,10 +28,10 @@ blockLen Aes128 = 16
 blockLen Present80 = 8
 blockLen Bench = 8
 
-abbrev pub numbered : List Kind → ℕ → Option Kind
-numbered [] b = None
-numbered (k ∷ ks) b = cond (eqb b (kindNumber k)) (Some k) (numbered ks b)
+abbrev pub withNumber : List Kind → ℕ → Option Kind
+withNumber [] b = None
+withNumber (k ∷ ks) b = cond (eqb b (kindNumber k)) (Some k) (withNumber ks b)
 
 -- the kind of the list that has this number
 abbrev pub kindOf : ℕ → Option Kind
-kindOf = numbered kinds
+kindOf = withNumber kinds

@@ -3,8 +3,10 @@ ghost use Prim.Native.Nat.{ℕ, _+_, _-_, _≤_};
 ghost use mathlib.Core.List.{List, []};
 ghost use mathlib.Core.Path.{_≡_};
 ghost use lib.ListN.{length};
+ghost use Rattle.std.specs.Results.{Cases};
 ghost use Rattle.std.specs.Vec.{made};
-ghost use Rattle.pass.specs.Layout.{Behind};
+ghost use Rattle.wire.specs.Faults.{causeNumber};
+ghost use Rattle.pass.specs.Layout.{Behind, Refusal};
 ghost use Rattle.pass.specs.Reading.{lastOf};
 ghost use Rattle.pass.specs.Walking.{Handed as TheHanded, start, handed, handOut, answer, move, next, Steps};
 ghost use Rattle.pass.specs.View.{partsOf, seen, handedIn, told, pointOf};
@@ -66,7 +68,7 @@ impl<'a> Walk<'a> {
     fn take_last(&mut self) -> Result<Frame<'a>, FrameFault>
         ensures value { λ r. ⌜ handedIn r ≡ handOut (pointOf (now (self .entry))) (lastOf (pointOf (now (self .entry)) .rest)) ⌝ }
         ensures after { λ _. ⌜ pointOf (now (self .exit)) ≡ move (pointOf (now (self .entry))) (lastOf (pointOf (now (self .entry)) .rest)) ⌝ }
-        ensures ends { λ r. ⌜ made r (λ f. Behind (pointOf (now (self .entry)) .rest) (pointOf (now (self .exit)) .rest) (partsOf (f .content))) ⌝ }
+        ensures cases { λ r. ⌜ Cases r (λ f. Behind (pointOf (now (self .entry)) .rest) (pointOf (now (self .exit)) .rest) (partsOf (f .content))) (λ e. Refusal (pointOf (now (self .entry)) .rest) (causeNumber (e .cause))) ⌝ }
     {
         let rest = self.rest;
         let number = self.number;
@@ -89,7 +91,7 @@ fn trailer_place(bytes: &[u8]) -> usize
 // The frame that ends `bytes`, or what is wrong with it and where its trailer is.
 fn located(bytes: &[u8]) -> Result<Last<'_>, FrameFault>
     ensures value { λ r. ⌜ seen r ≡ lastOf (now (bytes .entry)) ⌝ }
-    ensures ends { λ r. ⌜ made r (λ l. Behind (now (bytes .entry)) (l .rest .now) (partsOf (l .content))) ⌝ }
+    ensures cases { λ r. ⌜ Cases r (λ l. Behind (now (bytes .entry)) (l .rest .now) (partsOf (l .content))) (λ e. Refusal (now (bytes .entry)) (causeNumber (e .cause))) ⌝ }
     ensures shorter { λ r. ⌜ made r (λ l. length (l .rest .now) + 8 ≤ length (now (bytes .entry))) ⌝ }
 {
     Ok(at(last_frame(bytes), trailer_place(bytes))?)
