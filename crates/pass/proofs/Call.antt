@@ -7,6 +7,7 @@ use native.Mathlib.Omega.{arith}
 use lib.Dec.{eqb}
 use lib.ListN.{length}
 use Rattle.std.proofs.shelf.Lists.{length-append, nil-from-length}
+use Rattle.std.proofs.shelf.Results.{cases-at-err}
 use Rattle.std.proofs.shelf.Tests.{cond-true, cond-false, eq-eqb, ne-eqb}
 use Rattle.std.specs.declared.result.Result.{Result}
 use Rattle.std.specs.declared.result.Result.the-variants.{Ok, Err}
@@ -81,7 +82,7 @@ module _ (w : Point) where
           left = omega (arith, some);
           why = why;
           apart = λ rest p. no-frame (w .rest) rest p e found;
-          place = refused-at (w .rest) e found;
+          place = cases-at-err (λ _. Unit {0}) (λ d. d .place ≡ length (w .rest) - 8) e found (refused-at (w .rest));
           frame = refl;
           same = stays;
         })

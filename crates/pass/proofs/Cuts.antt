@@ -2,16 +2,16 @@
 -- that the trailer tells.
 use mathlib.Core.Bool.{Bool, true, false, cond, _&&_}
 use mathlib.Core.List.{List, [], _∷_, _++_, append-assoc}
-use mathlib.Core.Path.{_≡_, refl, ap, sym, subst, _∙_}
+use mathlib.Core.Path.{_≡_, refl, ap, sym, _∙_}
 use Prim.Native.Nat.{ℕ, _+_, _-_, _≤_, _<_, min}
 use native.Mathlib.Omega.{arith}
 use lib.Dec.{eqb, leb}
 use lib.ListN.{length, getD, take, drop}
 use Rattle.std.proofs.shelf.Lists.{length-take, length-drop, take-append-drop, take-all, drop-all}
 use Rattle.std.proofs.shelf.Tests.{and-parts, eqb-true, cond-true, le-leb, leb-true, leb-false}
+use Rattle.std.specs.Results.{Cases}
 use Rattle.std.specs.declared.result.Result.{Result}
 use Rattle.std.specs.declared.result.Result.the-variants.{Ok, Err}
-use Rattle.wire.specs.declared.fault.FrameFault.{FrameFault}
 use Rattle.wire.specs.declared.fault.Cause.{Cause}
 use Rattle.wire.specs.declared.fault.Cause.the-variants.{OverLimit, Overrun}
 use Rattle.wire.specs.Faults.{causeNumber}
@@ -21,11 +21,7 @@ use Rattle.wire.specs.declared.kind.Kind.the-variants.{Idle}
 use Rattle.pass.specs.declared.trailer.Trailer.{Trailer}
 use Rattle.pass.specs.Layout.{Parts, lengths, trailerBytes, span, takes, withinLimits, encoded, Lawful, Behind, Refusal, overLimit, overrun}
 use Rattle.pass.specs.Reading.{trailerOf, Cut, partsAt, cutAt, checked, locate, lastOf}
-use Rattle.pass.proofs.Trailers.{Ends, ends, why-trailer}
-
-located : (n : ℕ) (found : Result Cut Cause) (cut : Cut) → locate n found ≡ Ok cut → found ≡ Ok cut
-located n (Ok c) cut e = cc
-located n (Err c) cut e = let z : _≡_ {A = ℕ} 0 1 = cc in absurd (omega arith)
+use Rattle.pass.proofs.Trailers.{Ends, trailer-read}
 
 -- the lengths of the cut parts are the trailer's
 pub same-lengths : (t : Trailer) (ps : List ℕ) → length ps ≡ span t → lengths (partsAt t ps) ≡ t
@@ -91,72 +87,50 @@ accepted bs t e w s =
     ∙ cond-true (withinLimits t) _ _ w
     ∙ cond-true (leb (span t) (length before)) _ _ (le-leb (span t) (length before) s))
 
-module _ (bs : List ℕ) (small : (i : ℕ) → getD bs i 0 < 256) where
-  by-limits : (t : Trailer) (cut : Cut) (within fits : Bool)
-      → trailerOf bs ≡ Ok t
-      → withinLimits t ≡ within
-      → leb (span t) (length (take (length bs - 8) bs)) ≡ fits
-      → cond within (cond fits (Ok (cutAt t (take (length bs - 8) bs))) (Err Overrun)) (Err OverLimit) ≡ Ok cut
-      → Behind bs (cut .rest) (cut .parts)
-  by-limits t cut false _ r w f e = let z : _≡_ {A = ℕ} 0 1 = cc in absurd (omega arith)
-  by-limits t cut true false r w f e = let z : _≡_ {A = ℕ} 0 1 = cc in absurd (omega arith)
-  by-limits t cut true true r w f e =
-      let same : cutAt t (take (length bs - 8) bs) ≡ cut = cc in
-      subst (λ (c : Cut). Behind bs (c .rest) (c .parts)) same
-      (behind bs t (ends bs small t r) w (leb-true (span t) (length (take (length bs - 8) bs)) f))
+-- what a cut of the definition says of the bytes
+abbrev pub There : List ℕ → Cut → Type 0
+There bs cut = Behind bs (cut .rest) (cut .parts)
 
-  by-trailer : (cut : Cut) (trailer : Result Trailer Cause)
-      → trailerOf bs ≡ trailer
-      → checked bs trailer ≡ Ok cut
-      → Behind bs (cut .rest) (cut .parts)
-  by-trailer cut (Err e) r c = let z : _≡_ {A = ℕ} 0 1 = cc in absurd (omega arith)
-  by-trailer cut (Ok t) r c = by-limits t cut (withinLimits t) (leb (span t) (length (take (length bs - 8) bs))) r refl refl c
+by-limits : (bs : List ℕ) (t : Trailer) (within fits : Bool)
+    → Ends bs t
+    → withinLimits t ≡ within
+    → leb (span t) (length (take (length bs - 8) bs)) ≡ fits
+    → Cases
+    (cond within (cond fits (Ok (cutAt t (take (length bs - 8) bs))) (Err Overrun)) (Err OverLimit))
+    (There bs)
+    (λ c. Refusal bs (causeNumber c))
+by-limits bs t false _ e w f = overLimit (take (length bs - 8) bs) t (e .bytes) w
+by-limits bs t true false e w f =
+    overrun (take (length bs - 8) bs) t (e .bytes) w (leb-false (span t) (length (take (length bs - 8) bs)) f)
+by-limits bs t true true e w f = behind bs t e w (leb-true (span t) (length (take (length bs - 8) bs)) f)
 
-  -- the frame that ends some bytes, by the definition, is there
-  pub sound : (cut : Cut) → lastOf bs ≡ Ok cut → Behind bs (cut .rest) (cut .parts)
-  unfolding lastOf
-  sound cut e = by-trailer cut (trailerOf bs) refl (located (length bs) (checked bs (trailerOf bs)) cut e)
+by-trailer : (bs : List ℕ) (trailer : Result Trailer Cause)
+    → Cases trailer (Ends bs) (λ c. Refusal bs (causeNumber c))
+    → Cases (checked bs trailer) (There bs) (λ c. Refusal bs (causeNumber c))
+by-trailer bs (Err c) h = h
+by-trailer bs (Ok t) h = by-limits bs t (withinLimits t) (leb (span t) (length (take (length bs - 8) bs))) h refl refl
 
-located-err : (n : ℕ) (found : Result Cut Cause) (e : FrameFault)
-    → locate n found ≡ Err e
-    → (found ≡ Err (e .cause)) × (e .place ≡ n - 8)
-located-err n (Ok c) e h = let z : _≡_ {A = ℕ} 0 1 = cc in absurd (omega arith)
-located-err n (Err c) e h =
-    let same : record { cause = c; place = n - 8 } ≡ e = cc in
-    (ap (λ x. Err (x .cause)) same, ap (λ x. x .place) (sym same))
+by-place : (bs : List ℕ) (n : ℕ) (found : Result Cut Cause)
+    → Cases found (There bs) (λ c. Refusal bs (causeNumber c))
+    → Cases (locate n found) (There bs) (λ e. Refusal bs (causeNumber (e .cause)))
+by-place bs n (Err c) h = h
+by-place bs n (Ok cut) h = h
+
+-- the frame that ends some bytes, by the definition, is there, and else the check applies whose number is told
+pub last-read : (bs : List ℕ)
+    → ((i : ℕ) → getD bs i 0 < 256)
+    → Cases (lastOf bs) (There bs) (λ e. Refusal bs (causeNumber (e .cause)))
+unfolding lastOf
+last-read bs small = by-place bs (length bs) _ (by-trailer bs (trailerOf bs) (trailer-read bs small))
 
 -- a refusal tells the trailer's place
-pub refused-at : (bs : List ℕ) (e : FrameFault) → lastOf bs ≡ Err e → e .place ≡ length bs - 8
+pub refused-at : (bs : List ℕ) → Cases (lastOf bs) (λ _. Unit {0}) (λ e. e .place ≡ length bs - 8)
 unfolding lastOf
-refused-at bs e h = located-err (length bs) (checked bs (trailerOf bs)) e h .1
-
-module _ (bs : List ℕ) (small : (i : ℕ) → getD bs i 0 < 256) where
-  why-limits : (t : Trailer) (c : Cause) (within fits : Bool)
-      → trailerOf bs ≡ Ok t
-      → withinLimits t ≡ within
-      → leb (span t) (length (take (length bs - 8) bs)) ≡ fits
-      → cond within (cond fits (Ok (cutAt t (take (length bs - 8) bs))) (Err Overrun)) (Err OverLimit) ≡ Err c
-      → Refusal bs (causeNumber c)
-  why-limits t c false _ r w f e =
-      let same : OverLimit ≡ c = cc in
-      subst (λ d. Refusal bs (causeNumber d)) same (overLimit (take (length bs - 8) bs) t (ends bs small t r .bytes) w)
-  why-limits t c true false r w f e =
-      let same : Overrun ≡ c = cc in
-      subst (λ d. Refusal bs (causeNumber d)) same
-      (overrun (take (length bs - 8) bs) t (ends bs small t r .bytes) w (leb-false (span t) (length (take (length bs - 8) bs)) f))
-  why-limits t c true true r w f e = let z : _≡_ {A = ℕ} 0 1 = cc in absurd (omega arith)
-
-  why-cut : (c : Cause) (trailer : Result Trailer Cause)
-      → trailerOf bs ≡ trailer
-      → checked bs trailer ≡ Err c
-      → Refusal bs (causeNumber c)
-  why-cut c (Err d) r e = let same : d ≡ c = cc in subst (λ x. Refusal bs (causeNumber x)) same (why-trailer bs d r)
-  why-cut c (Ok t) r e = why-limits t c (withinLimits t) (leb (span t) (length (take (length bs - 8) bs))) r refl refl e
-
-  -- a refusal by the definition has the number of the first check that applies
-  pub why : (e : FrameFault) → lastOf bs ≡ Err e → Refusal bs (causeNumber (e .cause))
-  unfolding lastOf
-  why e h = why-cut (e .cause) (trailerOf bs) refl (located-err (length bs) (checked bs (trailerOf bs)) e h .0)
+refused-at bs = at (length bs) (checked bs (trailerOf bs))
+  where
+    at : (n : ℕ) (found : Result Cut Cause) → Cases (locate n found) (λ _. Unit {0}) (λ e. e .place ≡ n - 8)
+    at n (Ok c) = tt
+    at n (Err c) = refl
 
 zeros : (x y z : ℕ) → (eqb x 0 && (eqb y 0 && eqb z 0)) ≡ true → (x ≡ 0) × (y ≡ 0) × (z ≡ 0)
 zeros x y z h =

@@ -2,7 +2,7 @@
 -- quotient and the remainder of the length that they make.
 use mathlib.Core.Bool.{Bool, true, false, cond}
 use mathlib.Core.List.{List, [], _∷_, _++_}
-use mathlib.Core.Path.{_≡_, refl, ap, sym, subst, _∙_}
+use mathlib.Core.Path.{_≡_, refl, ap, sym, _∙_}
 use Prim.Native.Nat.{ℕ, _+_, _-_, _*_, _/_, _%_, _≤_, _<_, suc, zero}
 use native.Mathlib.Omega.{arith}
 use lib.Arith.{digits-div, digits-mod}
@@ -10,14 +10,14 @@ use lib.Dec.{eqb, ltb}
 use lib.ListN.{length, getD, take, drop}
 use Rattle.std.proofs.shelf.Lists.{drop-all, drop-more, take-append-drop}
 use Rattle.std.proofs.shelf.Tests.{eqb-true, eqb-false, ltb-true, ltb-false}
+use Rattle.std.specs.Results.{Cases}
 use Rattle.std.specs.declared.option.Option.{Option}
 use Rattle.std.specs.declared.option.Option.the-variants.{Some, None}
 use Rattle.std.specs.declared.result.Result.the-variants.{Ok, Err}
 use Rattle.wire.specs.Kinds.{kindNumber, kindOf}
 use Rattle.wire.specs.Limits.{nonceMax}
 use Rattle.wire.specs.Faults.{causeNumber}
-use Rattle.wire.specs.declared.fault.Cause.{Cause}
-use Rattle.wire.specs.declared.fault.Cause.the-variants.{Short, NoMark, UnknownKind}
+use Rattle.wire.specs.declared.fault.Cause.the-variants.{Short, NoMark}
 use Rattle.wire.specs.declared.kind.Kind.{Kind}
 use Rattle.wire.proofs.Listed.{found, listed}
 use Rattle.pass.specs.declared.trailer.Trailer.{Trailer}
@@ -41,6 +41,10 @@ last-bytes bs (suc k) h =
     drop-more bs (length bs - suc k) 0 (omega arith)
     ∙ ap (λ i. back bs (suc k) ∷ drop i bs) next
     ∙ ap (λ r. back bs (suc k) ∷ r) (last-bytes bs k (omega arith))
+
+-- no kind has a number that is not in the list
+no-kind : (b : ℕ) → kindOf b ≡ None → (k : Kind) → kindNumber k ≡ b → ⊥
+no-kind b none k e = let some = listed k in let same = ap kindOf e in let z : _≡_ {A = ℕ} 0 1 = cc in omega arith
 
 module _ (bs : List ℕ) (small : (i : ℕ) → getD bs i 0 < 256) where
   abbrev fields : Kind → Trailer
@@ -70,44 +74,18 @@ module _ (bs : List ℕ) (small : (i : ℕ) → getD bs i 0 < 256) where
             sym (take-append-drop (length bs - 8) bs) ∙ ap (λ r. take (length bs - 8) bs ++ r) (last-bytes bs 8 long ∙ same);
       }
 
-  by-checks : (t : Trailer) (short marked : Bool) (kind : Option Kind)
-      → ltb (length bs) 8 ≡ short
+  by-checks : (cut marked : Bool) (kind : Option Kind)
+      → ltb (length bs) 8 ≡ cut
       → eqb (back bs 1) 0xA7 ≡ marked
       → kindOf (back bs 2) ≡ kind
-      → cond short (Err Short) (cond marked (fieldsOf bs kind) (Err NoMark)) ≡ Ok t
-      → Ends bs t
-  by-checks t true _ _ s m k e = let z : _≡_ {A = ℕ} 0 1 = cc in absurd (omega arith)
-  by-checks t false false _ s m k e = let z : _≡_ {A = ℕ} 0 1 = cc in absurd (omega arith)
-  by-checks t false true None s m k e = let z : _≡_ {A = ℕ} 0 1 = cc in absurd (omega arith)
-  by-checks t false true (Some kind) s m k e =
-      let same : fields kind ≡ t = cc in
-      subst (Ends bs) same
-      (fields-end kind (ltb-false (length bs) 8 s) (found (back bs 2) kind k) (eqb-true (back bs 1) 0xA7 m))
+      → Cases (cond cut (Err Short) (cond marked (fieldsOf bs kind) (Err NoMark))) (Ends bs) (λ c. Refusal bs (causeNumber c))
+  by-checks true _ _ s m k = short (ltb-true (length bs) 8 s)
+  by-checks false false _ s m k = unmarked (ltb-false (length bs) 8 s) (eqb-false (back bs 1) 0xA7 m)
+  by-checks false true None s m k =
+      unknown (ltb-false (length bs) 8 s) (eqb-true (back bs 1) 0xA7 m) (no-kind (back bs 2) k)
+  by-checks false true (Some kind) s m k =
+      fields-end kind (ltb-false (length bs) 8 s) (found (back bs 2) kind k) (eqb-true (back bs 1) 0xA7 m)
 
-  pub ends : (t : Trailer) → trailerOf bs ≡ Ok t → Ends bs t
-  ends t = by-checks t (ltb (length bs) 8) (eqb (back bs 1) 0xA7) (kindOf (back bs 2)) refl refl refl
-
--- no kind has a number that is not in the list
-no-kind : (b : ℕ) → kindOf b ≡ None → (k : Kind) → kindNumber k ≡ b → ⊥
-no-kind b none k e = let some = listed k in let same = ap kindOf e in let z : _≡_ {A = ℕ} 0 1 = cc in omega arith
-
--- a trailer that is not read: the check that refuses it
-why-checks : (bs : List ℕ) (c : Cause) (cut marked : Bool) (kind : Option Kind)
-    → ltb (length bs) 8 ≡ cut
-    → eqb (back bs 1) 0xA7 ≡ marked
-    → kindOf (back bs 2) ≡ kind
-    → cond cut (Err Short) (cond marked (fieldsOf bs kind) (Err NoMark)) ≡ Err c
-    → Refusal bs (causeNumber c)
-why-checks bs c true _ _ s m k e =
-    let same : Short ≡ c = cc in subst (λ d. Refusal bs (causeNumber d)) same (short (ltb-true (length bs) 8 s))
-why-checks bs c false false _ s m k e =
-    let same : NoMark ≡ c = cc in
-    subst (λ d. Refusal bs (causeNumber d)) same (unmarked (ltb-false (length bs) 8 s) (eqb-false (back bs 1) 0xA7 m))
-why-checks bs c false true None s m k e =
-    let same : UnknownKind ≡ c = cc in
-    subst (λ d. Refusal bs (causeNumber d)) same
-    (unknown (ltb-false (length bs) 8 s) (eqb-true (back bs 1) 0xA7 m) (no-kind (back bs 2) k))
-why-checks bs c false true (Some kind) s m k e = let z : _≡_ {A = ℕ} 0 1 = cc in absurd (omega arith)
-
-pub why-trailer : (bs : List ℕ) (c : Cause) → trailerOf bs ≡ Err c → Refusal bs (causeNumber c)
-why-trailer bs c = why-checks bs c (ltb (length bs) 8) (eqb (back bs 1) 0xA7) (kindOf (back bs 2)) refl refl refl
+  -- a trailer that is read is there, and else a check applies
+  pub trailer-read : Cases (trailerOf bs) (Ends bs) (λ c. Refusal bs (causeNumber c))
+  trailer-read = by-checks (ltb (length bs) 8) (eqb (back bs 1) 0xA7) (kindOf (back bs 2)) refl refl refl
