@@ -9,7 +9,7 @@ case ${1:-} in
 esac
 [ $# -le 1 ] || { echo "$usage" >&2; exit 2; }
 file=${1:-$here/samples/two-frames.pass}
-[ -f "$file" ] && [ -r "$file" ] || { echo "list.sh: cannot read the file $file" >&2; exit 2; }
+[ -r "$file" ] && [ ! -d "$file" ] || { echo "list.sh: cannot read the file $file" >&2; exit 2; }
 command -v rt >/dev/null || { echo "list.sh: no 'rt' on the PATH: the Rattle kit is needed" >&2; exit 2; }
 
 log=$(mktemp)

@@ -1,5 +1,5 @@
 #!/bin/sh
-# Runs all tests. What comes before the last line is in words; the last line is that of `rt ci`, the verdict.
+# Runs all tests. The last line is that of `rt ci`, and is the verdict.
 set -eu
 cd "$(dirname "$0")/.."
 

@@ -34,7 +34,7 @@ fn run(rt: &LibcRuntime) -> Result<(), AnyError> {
         rt.println(HELP)?;
         return Ok(());
     }
-    Err("it takes a pass file on standard input, and no argument but --help".into())
+    Err("unexpected argument; usage: lister < FILE (lister --help says more)".into())
 }
 
 fn main(rt: LibcRuntime) -> Result<(), AnyError> {

@@ -80,7 +80,7 @@ module _ {before file text : List ℕ} {w : Point} (old : Sofar before file text
             end = w;
             run = old .run;
             last = λ f e. no-frame f (value ∙ e);
-            lines = ap (λ l. joined frameLine (old .frames) ++ l) (sym (is []) ∙ ap (λ x. linesAt x w []) value);
+            bytes = ap (λ l. joined frameLine (old .frames) ++ l) (sym (is []) ∙ ap (λ x. linesAt x w []) value);
           },
         ),
       )

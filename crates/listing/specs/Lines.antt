@@ -20,8 +20,8 @@ abbrev pub lineText : Line → List ℕ
 lineText l = frameText (l .number) (l .kind) (l .place) (l .len)
 
 -- the line of a frame that is handed out
-abbrev pub Tells : Line → Handed → Type 0
-Tells l f = l ≡ record { number = f .number; kind = kindNumber (f .parts .kind); place = f .place; len = f .len }
+abbrev pub IsLineOf : Line → Handed → Type 0
+IsLineOf l f = l ≡ record { number = f .number; kind = kindNumber (f .parts .kind); place = f .place; len = f .len }
 
 abbrev pub endText : (count : ℕ) → List ℕ
 endText count = codes "end " ++ decimal count

@@ -43,7 +43,7 @@ pub record Lists (file text : List ℕ) : Type 0 where
   pub end : Point
   pub run : Walks file frames end
   pub last : (f : Handed) → answer end ≡ handed f → ⊥
-  pub lines : text ≡ joined frameLine frames ++ linesAt (answer end) end []
+  pub bytes : text ≡ joined frameLine frames ++ linesAt (answer end) end []
 
 -- the listing of a file that is frames end to end: their lines, and their count
 abbrev pub frameLines : List Parts → List ℕ

@@ -1,7 +1,7 @@
 // The lines of a listing, without their newlines.
 ghost use Rattle.std.specs.declared.option.Option.the-variants.{Some};
 ghost use Rattle.pass.specs.View.{handedOf};
-ghost use Rattle.listing.specs.Lines.{lineText, endingText, Tells};
+ghost use Rattle.listing.specs.Lines.{lineText, endingText, IsLineOf};
 use pass::frame::Frame;
 use std::fmt;
 use wire::fault::ListFault;
@@ -17,7 +17,7 @@ pub(crate) struct Line {
 
 impl Line {
     pub(crate) fn of(frame: &Frame<'_>) -> Line
-        ensures { λ r. ⌜ Tells r (handedOf (now (frame .entry))) ⌝ }
+        ensures { λ r. ⌜ IsLineOf r (handedOf (now (frame .entry))) ⌝ }
     {
         Line {
             number: frame.number(),

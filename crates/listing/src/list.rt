@@ -1,4 +1,4 @@
-// The listing of a pass file, or of what stands before its first fault from the end.
+// The listing of a pass file: its frames from the end on, to the file's start or to the first fault.
 ghost use Prim.Native.Nat.{ℕ, _+_, _≤_};
 ghost use mathlib.Core.List.{List, _++_};
 ghost use mathlib.Core.Path.{_≡_};
@@ -25,6 +25,7 @@ use wire::fault::ListFaultFromPass;
 // The longest input that is listed, in bytes.
 pub const INPUT_MAX: usize = 65536;
 
+// Writing to a `String` fails for want of memory only.
 fn write_line<D: Display + Drop>(text: &mut String, value: D) -> Result<(), AllocError>
     ensures { λ r. ⌜ made r (λ _. BySome (shown value) (Unit {0}) (λ bs. string-bytes (now (text .exit)) ≡ string-bytes (now (text .entry)) ++ line bs)) ⌝ }
 {
@@ -40,6 +41,7 @@ fn list_frames(text: &mut String, file: &[u8]) -> Result<Ending, AllocError>
     ensures walks { λ r. ⌜ made r (λ e. (more : List ℕ) × (string-bytes (now (text .exit)) ≡ string-bytes (now (text .entry)) ++ more) × Lists (now (file .entry)) (more ++ line (endingText e))) ⌝ }
 {
     let mut walk = Walk::new(file);
+    // the label names the loop in its proof
     'walking: loop {
         let next = match walk.next_frame() {
             Ok(next) => next,

@@ -16,7 +16,7 @@ use Rattle.wire.specs.declared.fault.FrameFault.{FrameFault}
 use Rattle.pass.specs.Layout.{encoded, Behind, Refusal}
 use Rattle.pass.specs.Reading.{Cut, lastOf}
 use Rattle.pass.specs.Walking.{Point, Handed, Told, none, handed, refused, handOut, tell, answer, move, next, Steps}
-use Rattle.pass.specs.Runs.{handedOut, Walks, called, Whole}
+use Rattle.pass.specs.Runs.{collected, Walks, called, Whole}
 use Rattle.pass.proofs.Cuts.{refused-at}
 use Rattle.pass.proofs.RoundTrip.{no-frame}
 use Rattle.pass.proofs.Whole.{whole}
@@ -25,7 +25,7 @@ pub record Promise (w : Point) (r : Told) (v : Point) : Type 0 where
   pub value : r ≡ answer w
   pub after : v ≡ next w
   pub step : Steps w r v
-  pub run : (file : List ℕ) (fs : List Handed) → Walks file fs w → Walks file (handedOut fs r) v
+  pub run : (file : List ℕ) (fs : List Handed) → Walks file fs w → Walks file (collected fs r) v
   pub rule : (file : List ℕ) (fs : List Handed) → Walks file fs w → Whole file fs r
   pub stays : ((f : Handed) → r ≡ handed f → ⊥) → answer v ≡ r
 
@@ -114,5 +114,5 @@ module _ (w : Point) where
           number = ap (λ g. g .number) same;
           place = place;
           len = omega (arith, ap (λ g. g .len) same, ap (λ g. g .place) same);
-          next = ap (λ u. u .number) moved;
+          moved = ap (λ u. u .number) moved;
         })

@@ -13,13 +13,13 @@ use Rattle.std.specs.Results.{Cases}
 use Rattle.std.specs.declared.result.Result.{Result}
 use Rattle.std.specs.declared.result.Result.the-variants.{Ok, Err}
 use Rattle.wire.specs.declared.fault.Cause.{Cause}
-use Rattle.wire.specs.declared.fault.Cause.the-variants.{OverLimit, Overrun}
+use Rattle.wire.specs.declared.fault.Cause.the-variants.{BadLength, Overrun}
 use Rattle.wire.specs.Faults.{causeNumber}
 use Rattle.wire.specs.Limits.{headerMax, messageMax}
 use Rattle.wire.specs.declared.kind.Kind.{Kind}
 use Rattle.wire.specs.declared.kind.Kind.the-variants.{Idle}
 use Rattle.pass.specs.declared.trailer.Trailer.{Trailer}
-use Rattle.pass.specs.Layout.{Parts, lengths, trailerBytes, span, takes, withinLimits, encoded, Lawful, Behind, Refusal, overLimit, overrun}
+use Rattle.pass.specs.Layout.{Parts, lengths, trailerBytes, span, takes, withinLimits, encoded, Lawful, Behind, Refusal, badLength, overrun}
 use Rattle.pass.specs.Reading.{trailerOf, Cut, partsAt, cutAt, checked, locate, lastOf}
 use Rattle.pass.proofs.Trailers.{Ends, trailer-read}
 
@@ -96,10 +96,10 @@ by-limits : (bs : List ℕ) (t : Trailer) (within fits : Bool)
     → withinLimits t ≡ within
     → leb (span t) (length (take (length bs - 8) bs)) ≡ fits
     → Cases
-    (cond within (cond fits (Ok (cutAt t (take (length bs - 8) bs))) (Err Overrun)) (Err OverLimit))
+    (cond within (cond fits (Ok (cutAt t (take (length bs - 8) bs))) (Err Overrun)) (Err BadLength))
     (There bs)
     (λ c. Refusal bs (causeNumber c))
-by-limits bs t false _ e w f = overLimit (take (length bs - 8) bs) t (e .bytes) w
+by-limits bs t false _ e w f = badLength (take (length bs - 8) bs) t (e .bytes) w
 by-limits bs t true false e w f =
     overrun (take (length bs - 8) bs) t (e .bytes) w (leb-false (span t) (length (take (length bs - 8) bs)) f)
 by-limits bs t true true e w f = behind bs t e w (leb-true (span t) (length (take (length bs - 8) bs)) f)

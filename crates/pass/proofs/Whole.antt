@@ -2,13 +2,13 @@
 -- file: one induction over the calls.
 use mathlib.Core.List.{List, [], _∷_, _++_, append-assoc, append-nil}
 use mathlib.Core.Path.{_≡_, refl, ap, sym, subst, _∙_}
-use Prim.Native.Nat.{ℕ, _+_}
+use Prim.Native.Nat.{ℕ, suc, _+_}
 use native.Mathlib.Omega.{arith}
 use lib.ListN.{length}
 use Rattle.std.proofs.shelf.Lists.{length-append}
 use Rattle.pass.specs.Layout.{Parts, encoded, Behind, EndToEnd}
 use Rattle.pass.specs.Walking.{Point, start, Handed, Told, none, handed, refused, Hands, Refuses, Steps}
-use Rattle.pass.specs.Runs.{handedOut, Walks, begun, called, size, numbered, Whole}
+use Rattle.pass.specs.Runs.{collected, Walks, begun, called, size, numbered, Reaches, Whole}
 use Rattle.pass.proofs.RoundTrip.{one-frame, shorter}
 
 -- no bytes, no frame
@@ -53,10 +53,10 @@ next-numbered fs w v f ps h e =
     (record { parts = f .parts; number = f .number; place = f .place; len = f .len }) =
     cc in
     ap (λ x. fs ++ (x ∷ numbered (w .number + 1) ps)) same
-    ∙ ap (λ n. fs ++ (f ∷ numbered n ps)) (sym (h .next))
+    ∙ ap (λ n. fs ++ (f ∷ numbered n ps)) (sym (h .moved))
     ∙ sym (append-assoc fs (f ∷ []) (numbered (v .number) ps))
 
-after : (file : List ℕ) (fs : List Handed) (w v : Point) (r : Told) → Sofar file fs w → Steps w r v → Sofar file (handedOut fs r) v
+after : (file : List ℕ) (fs : List Handed) (w v : Point) (r : Told) → Sofar file fs w → Steps w r v → Sofar file (collected fs r) v
 after file fs w v none old s = subst (Sofar file fs) (sym (s .1)) old
 after file fs w v (refused _ _ _) old s = subst (Sofar file fs) (sym (s .same)) old
 after file fs w v (handed f) old s =
@@ -90,3 +90,26 @@ whole file fs w v (handed f) run s = λ ps e.
       p .2 ∙ ap (λ l. fs ++ numbered (w .number) l) (g .2) ∙ next-numbered fs w v f (g .0) s (g .1) ∙ append-assoc fs (f ∷ []) _,
     )
 whole file fs w v (refused _ _ _) run s = λ ps e. let p = sofar file fs w run .complete ps e in no-list w _ _ _ v (p .0) s (p .1)
+
+-- from a point at which frames end to end are left, they are handed out, and none is left then
+hands-all : (file : List ℕ) (fs : List Handed) (w : Point) (ps : List Parts)
+    → Walks file fs w
+    → EndToEnd (w .rest) ps
+    → Walks file (fs ++ numbered (w .number) ps) (record { rest = []; number = w .number + length ps })
+hands-all file fs w [] run e =
+    let n : w .number ≡ w .number + 0 = omega arith in
+    let same : _≡_ {A = Point} (record { rest = w .rest; number = w .number }) (record { rest = []; number = w .number + 0 }) = cc in
+    rw (append-nil, ← same) run
+hands-all file fs w (p ∷ ps) run e =
+    let f : Handed = record { parts = p; number = w .number; place = size ps; len = length (encoded p) } in
+    let v : Point = record { rest = e .0; number = w .number + 1 } in
+    let place : size ps ≡ length (e .0) = sym (size-of (e .0) ps (e .2)) in
+    let step : Steps w (handed f) v = record { behind = e .1; number = refl; place = place; len = refl; moved = refl } in
+    let n : w .number + 1 + length ps ≡ w .number + suc (length ps) = omega arith in
+    let all = hands-all file (fs ++ (f ∷ [])) v ps (called run (handed f) step) (e .2) in
+    rw (append-assoc fs (f ∷ []) (numbered (w .number + 1) ps), n) at all
+
+pub reaches : (file : List ℕ) → Reaches file
+reaches file ps e =
+    let n : 0 + length ps ≡ length ps = omega arith in
+    rw n at (hands-all file [] (start file) ps begun e)

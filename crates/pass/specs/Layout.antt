@@ -44,7 +44,8 @@ lengths p =
 abbrev pub encoded : Parts → List ℕ
 encoded p = p .nonce ++ (p .header ++ (p .body ++ (p .tag ++ trailerBytes (lengths p))))
 
--- an idle frame has 00 in the first four bytes of its trailer
+-- the lengths that a kind takes: an idle frame has 00 in the first four bytes of its trailer, and a sealed one a tag of
+-- 4 bytes to its own n
 abbrev pub takes : Kind → Trailer → Bool
 takes Idle t = eqb (t .nonce) 0 && (eqb (t .tag) 0 && eqb (t .header) 0)
 takes (Sealed s) t = isTagLen (blockLen s) (t .tag)
@@ -66,7 +67,7 @@ pub data Refusal (bytes : List ℕ) : ℕ → Type 0 where
   short : length bytes < 8 → Refusal bytes 7
   unmarked : 8 ≤ length bytes → (back bytes 1 ≡ 0xA7 → ⊥) → Refusal bytes 8
   unknown : 8 ≤ length bytes → back bytes 1 ≡ 0xA7 → ((k : Kind) → kindNumber k ≡ back bytes 2 → ⊥) → Refusal bytes 9
-  overLimit : (before : List ℕ) (t : Trailer) → bytes ≡ before ++ trailerBytes t → withinLimits t ≡ false → Refusal bytes 10
+  badLength : (before : List ℕ) (t : Trailer) → bytes ≡ before ++ trailerBytes t → withinLimits t ≡ false → Refusal bytes 10
   overrun : (before : List ℕ) (t : Trailer)
       → bytes ≡ before ++ trailerBytes t
       → withinLimits t ≡ true

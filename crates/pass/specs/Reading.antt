@@ -11,7 +11,7 @@ use Rattle.std.specs.declared.result.Result.the-variants.{Ok, Err}
 use Rattle.wire.specs.Kinds.{kindOf}
 use Rattle.wire.specs.declared.kind.Kind.{Kind}
 use Rattle.wire.specs.declared.fault.Cause.{Cause}
-use Rattle.wire.specs.declared.fault.Cause.the-variants.{Short, NoMark, UnknownKind, OverLimit, Overrun}
+use Rattle.wire.specs.declared.fault.Cause.the-variants.{Short, NoMark, UnknownKind, BadLength, Overrun}
 use Rattle.wire.specs.declared.fault.FrameFault.{FrameFault}
 use Rattle.pass.specs.declared.trailer.Trailer.{Trailer}
 use Rattle.pass.specs.Layout.{back, Parts, span, withinLimits}
@@ -56,7 +56,7 @@ cutAt t before =
     }
 
 abbrev pub cutOf : Trailer → List ℕ → Result Cut Cause
-cutOf t before = cond (withinLimits t) (cond (leb (span t) (length before)) (Ok (cutAt t before)) (Err Overrun)) (Err OverLimit)
+cutOf t before = cond (withinLimits t) (cond (leb (span t) (length before)) (Ok (cutAt t before)) (Err Overrun)) (Err BadLength)
 
 abbrev pub checked : List ℕ → Result Trailer Cause → Result Cut Cause
 checked bs (Err e) = Err e

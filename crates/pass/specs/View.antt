@@ -27,13 +27,15 @@ partsOf (Sealed suite nonce header body tag) =
       tag = tag .now;
     }
 
-abbrev pub seen : {E : Type 0} → Result Last E → Result Cut E
-seen (Err e) = Err e
-seen (Ok l) = Ok (record { rest = l .rest .now; parts = partsOf (l .content) })
+-- the same inside a result
+abbrev pub cutIn : {E : Type 0} → Result Last E → Result Cut E
+cutIn (Err e) = Err e
+cutIn (Ok l) = Ok (record { rest = l .rest .now; parts = partsOf (l .content) })
 
 abbrev pub handedOf : Frame → Handed
 handedOf f = record { parts = partsOf (f .content); number = f .number; place = f .place; len = f .len }
 
+-- the same inside a result
 abbrev pub handedIn : {E : Type 0} → Result Frame E → Result Handed E
 handedIn (Ok f) = Ok (handedOf f)
 handedIn (Err e) = Err e

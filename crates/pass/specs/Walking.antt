@@ -68,7 +68,7 @@ pub record Hands (w : Point) (f : Handed) (v : Point) : Type 0 where
   pub number : f .number ≡ w .number
   pub place : f .place ≡ length (v .rest)
   pub len : f .len ≡ length (encoded (f .parts))
-  pub next : v .number ≡ w .number + 1
+  pub moved : v .number ≡ w .number + 1
 
 -- a refusal comes exactly where bytes are left and no lawful frame ends them, and the walk stays
 pub record Refuses (w : Point) (fault trailer number : ℕ) (v : Point) : Type 0 where

@@ -4,7 +4,7 @@ ghost use mathlib.Core.Path.{_≡_};
 ghost use lib.ListN.{length};
 ghost use Rattle.pass.specs.Layout.{span, withinLimits};
 ghost use Rattle.pass.specs.Reading.{trailerOf, partsAt, cutOf, checked};
-ghost use Rattle.pass.specs.View.{partsOf, handedOf, seen};
+ghost use Rattle.pass.specs.View.{partsOf, handedOf, cutIn};
 use crate::trailer::TRAILER_LEN;
 use crate::trailer::Trailer;
 use wire::fault::Cause;
@@ -61,7 +61,7 @@ pub struct Frame<'a> {
 }
 
 impl<'a> Frame<'a> {
-    // The frame before which `last.rest` stands.
+    // Makes the frame that follows `last.rest` in the file.
     pub(crate) fn new(last: Last<'a>, number: usize, len: usize) -> Frame<'a>
         ensures { λ r. ⌜ handedOf r ≡ record { parts = partsOf (last .entry .content); number = number; place = length (last .entry .rest .now); len = len } ⌝ }
     {
@@ -88,21 +88,21 @@ impl<'a> Frame<'a> {
         }
     }
 
-    // From 0 at the file's end.
+    // The frame's number, from 0 at the file's end.
     pub fn number(&self) -> usize
         ensures { λ r. ⌜ r ≡ handedOf (now (self .entry)) .number ⌝ }
     {
         self.number
     }
 
-    // Of the frame's first byte, from the file's first.
+    // The place of the frame's first byte, from the file's first.
     pub fn place(&self) -> usize
         ensures { λ r. ⌜ r ≡ handedOf (now (self .entry)) .place ⌝ }
     {
         self.place
     }
 
-    // Of the whole frame, with its trailer.
+    // The bytes of the whole frame, with its trailer.
     pub fn len(&self) -> usize
         ensures { λ r. ⌜ r ≡ handedOf (now (self .entry)) .len ⌝ }
     {
@@ -120,10 +120,10 @@ pub(crate) struct Last<'a> {
 impl<'a> Last<'a> {
     // Cuts the parts that a trailer tells of off the bytes before it.
     fn cut(trailer: Trailer, before: &'a [u8]) -> Result<Last<'a>, Cause>
-        ensures { λ r. ⌜ seen r ≡ cutOf trailer (now (before .entry)) ⌝ }
+        ensures { λ r. ⌜ cutIn r ≡ cutOf trailer (now (before .entry)) ⌝ }
     {
         if !trailer.is_within_limits() {
-            return Err(Cause::OverLimit);
+            return Err(Cause::BadLength);
         }
         let span = trailer.span();
         if span > before.len() {
@@ -139,7 +139,7 @@ impl<'a> Last<'a> {
 
 // The frame that ends `bytes`, by the checks in their order.
 pub(crate) fn last_frame(bytes: &[u8]) -> Result<Last<'_>, Cause>
-    ensures { λ r. ⌜ seen r ≡ checked (now (bytes .entry)) (trailerOf (now (bytes .entry))) ⌝ }
+    ensures { λ r. ⌜ cutIn r ≡ checked (now (bytes .entry)) (trailerOf (now (bytes .entry))) ⌝ }
 {
     let trailer = Trailer::read(bytes)?;
     let (before, _) = bytes.split_at(bytes.len() - TRAILER_LEN);

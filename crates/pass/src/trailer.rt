@@ -48,7 +48,7 @@ impl Trailer {
         if *mark != MARK {
             return Err(Cause::NoMark);
         }
-        let Some(kind) = Kind::of(*kind) else {
+        let Some(kind) = Kind::from_number(*kind) else {
             return Err(Cause::UnknownKind);
         };
         Ok(Trailer {

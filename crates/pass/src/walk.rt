@@ -5,8 +5,8 @@ ghost use denote.Ref.{now};
 
 mod calls;
 
-// Where a walk stands: the bytes that are left, and the number of the frame that ends them. The two together never
-// grow, so the number cannot overflow.
+// Where a walk stands: the bytes that are left, and the number of the frame that ends them. Their sum never grows, so
+// the number cannot overflow. The struct has a file of its own, since the definitions that its calls cite name it.
 #[derive(Drop)]
 pub struct Walk<'a> {
     rest: &'a [u8],

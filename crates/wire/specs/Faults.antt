@@ -5,7 +5,7 @@ use Rattle.std.specs.declared.result.Result.the-variants.{Ok, Err}
 use Rattle.wire.specs.declared.fault.RecordFault.{RecordFault}
 use Rattle.wire.specs.declared.fault.RecordFault.the-variants.{HeaderTooLong, BufferTooShort, MessageTooLong, KeyLength, TagLength, TagWrong}
 use Rattle.wire.specs.declared.fault.Cause.{Cause}
-use Rattle.wire.specs.declared.fault.Cause.the-variants.{Record, Short, NoMark, UnknownKind, OverLimit, Overrun, OtherCipher, NonceTooLong}
+use Rattle.wire.specs.declared.fault.Cause.the-variants.{Record, Short, NoMark, UnknownKind, BadLength, Overrun, OtherCipher, NonceTooLong}
 use Rattle.wire.specs.declared.fault.FrameFault.{FrameFault}
 use Rattle.wire.specs.declared.fault.PassFault.{PassFault}
 use Rattle.wire.specs.declared.fault.ListFault.{ListFault}
@@ -24,7 +24,7 @@ causeNumber (Record fault) = recordNumber fault
 causeNumber Short = 7
 causeNumber NoMark = 8
 causeNumber UnknownKind = 9
-causeNumber OverLimit = 10
+causeNumber BadLength = 10
 causeNumber Overrun = 11
 causeNumber OtherCipher = 12
 causeNumber NonceTooLong = 13

@@ -12,6 +12,9 @@ headerMax = 2048
 abbrev pub messageMax : ℕ
 messageMax = 4096
 
+abbrev pub tagMin : ℕ
+tagMin = 4
+
 -- a tag of u bytes, where a block has n
 abbrev pub isTagLen : ℕ → ℕ → Bool
-isTagLen n u = leb 4 u && leb u n
+isTagLen n u = leb tagMin u && leb u n

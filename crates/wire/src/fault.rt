@@ -38,8 +38,8 @@ pub enum Cause {
     Short,
     NoMark,
     UnknownKind,
-    // a length in the trailer that its kind does not take
-    OverLimit,
+    // a length in the trailer that is past its limit, or that the kind does not take
+    BadLength,
     // parts longer than the bytes before the trailer
     Overrun,
     OtherCipher,
@@ -55,7 +55,7 @@ impl Cause {
             Cause::Short => 7,
             Cause::NoMark => 8,
             Cause::UnknownKind => 9,
-            Cause::OverLimit => 10,
+            Cause::BadLength => 10,
             Cause::Overrun => 11,
             Cause::OtherCipher => 12,
             Cause::NonceTooLong => 13,
@@ -87,7 +87,7 @@ pub impl From<(Cause, usize)> for FrameFault as FrameFaultFromCause {
     }
 }
 
-// The frame is told by its number, from 0 at the file's end.
+// The frame is identified by its number, from 0 at the file's end.
 #[derive(Clone, Copy, PartialEq, Eq, Debug)]
 pub struct PassFault {
     pub fault: FrameFault,
@@ -137,12 +137,12 @@ pub impl From<PassFault> for ListFault as ListFaultFromPass {
     }
 }
 
-// Pairs an error with what the next fault up adds to it, for `?` to join.
-pub fn at<T, E>(result: Result<T, E>, place: usize) -> Result<T, (E, usize)>
-    ensures { λ r. ⌜ r ≡ placed result place ⌝ }
+// Pairs an error with the place, or the frame's number, that the next fault up adds to it; `?` then joins the two.
+pub fn at<T, E>(result: Result<T, E>, number: usize) -> Result<T, (E, usize)>
+    ensures { λ r. ⌜ r ≡ placed result number ⌝ }
 {
     match result {
         Ok(value) => Ok(value),
-        Err(error) => Err((error, place)),
+        Err(error) => Err((error, number)),
     }
 }

@@ -33,7 +33,7 @@ pub enum Kind {
 }
 
 impl Kind {
-    pub fn of(number: u8) -> Option<Kind>
+    pub fn from_number(number: u8) -> Option<Kind>
         ensures value { λ r. ⌜ r ≡ kindOf number ⌝ }
         ensures cases { λ r. ⌜ Cases r ((k : TheKind) → kindNumber k ≡ number → ⊥) (λ k. kindNumber k ≡ number) ⌝ }
     {

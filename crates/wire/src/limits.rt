@@ -2,18 +2,16 @@
 ghost use mathlib.Core.Path.{_≡_};
 ghost use Rattle.wire.specs.Limits.{isTagLen};
 
-pub const NONCE_MAX: usize = 255;
-
 pub const HEADER_MAX: usize = 2048;
 
-// Of a message, and so of a frame's body.
+// The longest message, and so the longest body of a frame.
 pub const MESSAGE_MAX: usize = 4096;
 
 pub const TAG_MIN: usize = 4;
 
-// Whether a tag may have `len` bytes where a block has `n`.
-pub fn is_tag_len(n: usize, len: usize) -> bool
-    ensures { λ r. ⌜ r ≡ isTagLen n len ⌝ }
+// Whether a tag may have `len` bytes, by the bytes of a block.
+pub fn is_tag_len(block_len: usize, len: usize) -> bool
+    ensures { λ r. ⌜ r ≡ isTagLen «block_len» len ⌝ }
 {
-    len >= TAG_MIN && len <= n
+    len >= TAG_MIN && len <= block_len
 }

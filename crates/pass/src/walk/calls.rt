@@ -9,8 +9,8 @@ ghost use Rattle.wire.specs.Faults.{causeNumber};
 ghost use Rattle.pass.specs.Layout.{Behind, Refusal};
 ghost use Rattle.pass.specs.Reading.{lastOf};
 ghost use Rattle.pass.specs.Walking.{Handed as TheHanded, start, handed, handOut, answer, move, next, Steps};
-ghost use Rattle.pass.specs.View.{partsOf, seen, handedIn, told, pointOf};
-ghost use Rattle.pass.specs.Runs.{handedOut, Walks, Whole};
+ghost use Rattle.pass.specs.View.{partsOf, cutIn, handedIn, told, pointOf};
+ghost use Rattle.pass.specs.Runs.{collected, Walks, Reaches, Whole};
 use super::Walk;
 use crate::frame::Frame;
 use crate::frame::Last;
@@ -26,6 +26,7 @@ impl<'a> Walk<'a> {
     pub fn new(file: &'a [u8]) -> Walk<'a>
         ensures value { λ r. ⌜ pointOf r ≡ start (now (file .entry)) ⌝ }
         ensures run { λ r. ⌜ Walks (now (file .entry)) [] (pointOf r) ⌝ }
+        ensures reaches { λ _. ⌜ Reaches (now (file .entry)) ⌝ }
     {
         Walk {
             rest: file,
@@ -52,7 +53,7 @@ impl<'a> Walk<'a> {
         ensures value { λ r. ⌜ told r ≡ answer (pointOf (now (self .entry))) ⌝ }
         ensures after { λ _. ⌜ pointOf (now (self .exit)) ≡ next (pointOf (now (self .entry))) ⌝ }
         ensures step { λ r. ⌜ Steps (pointOf (now (self .entry))) (told r) (pointOf (now (self .exit))) ⌝ }
-        ensures run { λ r. ⌜ ((file : List ℕ) (fs : List TheHanded) → Walks file fs (pointOf (now (self .entry))) → Walks file (handedOut fs (told r)) (pointOf (now (self .exit)))) ⌝ }
+        ensures run { λ r. ⌜ ((file : List ℕ) (fs : List TheHanded) → Walks file fs (pointOf (now (self .entry))) → Walks file (collected fs (told r)) (pointOf (now (self .exit)))) ⌝ }
         ensures rule { λ r. ⌜ ((file : List ℕ) (fs : List TheHanded) → Walks file fs (pointOf (now (self .entry))) → Whole file fs (told r)) ⌝ }
         ensures stays { λ r. ⌜ (((f : TheHanded) → told r ≡ handed f → ⊥) → answer (pointOf (now (self .exit))) ≡ told r) ⌝ }
     {
@@ -90,7 +91,7 @@ fn trailer_place(bytes: &[u8]) -> usize
 
 // The frame that ends `bytes`, or what is wrong with it and where its trailer is.
 fn located(bytes: &[u8]) -> Result<Last<'_>, FrameFault>
-    ensures value { λ r. ⌜ seen r ≡ lastOf (now (bytes .entry)) ⌝ }
+    ensures value { λ r. ⌜ cutIn r ≡ lastOf (now (bytes .entry)) ⌝ }
     ensures cases { λ r. ⌜ Cases r (λ l. Behind (now (bytes .entry)) (l .rest .now) (partsOf (l .content))) (λ e. Refusal (now (bytes .entry)) (causeNumber (e .cause))) ⌝ }
     ensures shorter { λ r. ⌜ made r (λ l. length (l .rest .now) + 8 ≤ length (now (bytes .entry))) ⌝ }
 {

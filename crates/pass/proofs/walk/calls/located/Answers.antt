@@ -15,14 +15,14 @@ use Rattle.wire.proofs.Carried.{placed-ok, placed-err}
 use Rattle.pass.specs.declared.frame.Last.{Last}
 use Rattle.pass.specs.Layout.{Behind, Refusal}
 use Rattle.pass.specs.Reading.{locate, lastOf}
-use Rattle.pass.specs.View.{partsOf, seen}
+use Rattle.pass.specs.View.{partsOf, cutIn}
 use Rattle.pass.proofs.Cuts.{last-read}
 use Rattle.pass.proofs.RoundTrip.{shorter}
 use Rattle.pass.proofs.walk.calls.located.Needs as need
 
 -- what the definition's two cases say of what is returned
 cases : (bs : List ℕ) (r : Result Last FrameFault)
-    → seen r ≡ lastOf bs
+    → cutIn r ≡ lastOf bs
     → ((i : ℕ) → getD bs i 0 < 256)
     → Cases r (λ l. Behind bs (l .rest .now) (partsOf (l .content))) (λ e. Refusal bs (causeNumber (e .cause)))
 cases bs (Ok l) value small = rw (← value) at (last-read bs small)
@@ -35,10 +35,10 @@ returns-in-Break-at c =
     let x = c .in-Break-at .field-0 .0 in
     let e = err-from-errBy (c .from-residual .result) (c .from-residual .ensures .1) in
     let d = placed-err (c .last-frame .result) _ x (sym (c .in-Break-at .ensures tt)) in
-    let value : seen (c .from-residual .result) ≡ lastOf bs =
-    ap seen (e .1 ∙ ap Err (e .2))
+    let value : cutIn (c .from-residual .result) ≡ lastOf bs =
+    ap cutIn (e .1 ∙ ap Err (e .2))
     ∙ ap (λ p. Err (record { cause = x .0; place = p })) (sym (d .1) ∙ c .trailer-place .ensures)
-    ∙ ap (locate (length bs)) (ap seen (sym (d .0)) ∙ c .last-frame .ensures) in
+    ∙ ap (locate (length bs)) (ap cutIn (sym (d .0)) ∙ c .last-frame .ensures) in
     record {
       value = value;
       cases = cases bs (c .from-residual .result) value (λ i. fits-lt-pow (c .typed .bytes i));
@@ -51,6 +51,6 @@ returns c =
     let bs = c .args .bytes .now in
     let l = c .in-Continue-at .field-0 in
     let found = placed-ok (c .last-frame .result) _ l (sym (c .in-Continue-at .ensures tt)) in
-    let value : seen (Ok l) ≡ lastOf bs = ap (locate (length bs)) (ap seen (sym found) ∙ c .last-frame .ensures) in
+    let value : cutIn (Ok l) ≡ lastOf bs = ap (locate (length bs)) (ap cutIn (sym found) ∙ c .last-frame .ensures) in
     let there = cases bs (Ok l) value (λ i. fits-lt-pow (c .typed .bytes i)) in
     record { value = value; cases = there; shorter = shorter bs (l .rest .now) (partsOf (l .content)) there }
