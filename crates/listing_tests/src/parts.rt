@@ -100,3 +100,19 @@ fn fault_stays() -> Result<(), Fail> {
     check_eq(walk.next_frame().err(), Some(fault)).note("the same again")?;
     check_eq((fault.number(), walk.left()), (11, 9))
 }
+
+// The bench frame behind three bytes: too few for a trailer, whose place is then 0.
+#[test]
+fn short_rest() -> Result<(), Fail> {
+    let mut walk = Walk::new(&FILE[7..25]);
+    check(walk.next_frame().is_ok())?;
+    let fault = PassFault {
+        fault: FrameFault {
+            cause: Cause::Short,
+            place: 0,
+        },
+        frame: 1,
+    };
+    check_eq(walk.next_frame().err(), Some(fault))?;
+    check_eq((walk.left(), walk.count()), (3, 1))
+}
