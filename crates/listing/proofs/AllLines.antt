@@ -1,7 +1,7 @@
 -- The listing of a file that is frames end to end is their lines and their count: each turn hands out the next of them.
 use mathlib.Core.Bool.{true, false}
 use mathlib.Core.List.{List, [], _∷_, _++_, append-assoc}
-use mathlib.Core.Path.{_≡_, refl, ap, sym, _∙_}
+use mathlib.Core.Path.{_≡_, ap, sym, _∙_}
 use Prim.Native.Nat.{ℕ, zero, suc, _+_, _≤_, _<_}
 use native.Mathlib.Omega.{arith}
 use lib.Dec.{ltb}
@@ -9,7 +9,7 @@ use lib.ListN.{length}
 use Rattle.std.proofs.shelf.Tests.{cond-true, cond-false, le-ltb}
 use Rattle.std.specs.Joined.{joined}
 use Rattle.pass.specs.Layout.{Parts, encoded, EndToEnd}
-use Rattle.pass.specs.Walking.{Point, start, Handed, answer, next}
+use Rattle.pass.specs.Walking.{Point, start, Handed, next}
 use Rattle.pass.specs.Runs.{numbered, size}
 use Rattle.pass.proofs.Answered.{none-answered, frame-answered, frame-passed}
 use Rattle.pass.proofs.RoundTrip.{shorter}

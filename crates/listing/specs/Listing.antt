@@ -2,12 +2,12 @@
 use mathlib.Core.Bool.{cond}
 use mathlib.Core.List.{List, [], _∷_, _++_}
 use mathlib.Core.Path.{_≡_}
-use Prim.Native.Nat.{ℕ, zero, suc, _+_, _≤_}
+use Prim.Native.Nat.{ℕ, zero, suc, _+_}
 use lib.Dec.{ltb}
 use lib.ListN.{length}
 use Rattle.std.specs.Joined.{joined}
 use Rattle.wire.specs.Kinds.{kindNumber}
-use Rattle.pass.specs.Layout.{Parts, EndToEnd}
+use Rattle.pass.specs.Layout.{Parts}
 use Rattle.pass.specs.Walking.{Point, start, Handed, Told, none, handed, refused, answer, next}
 use Rattle.pass.specs.Runs.{Walks, numbered}
 use Rattle.listing.specs.Lines.{frameText, endText, faultText}

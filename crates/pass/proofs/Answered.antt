@@ -1,8 +1,8 @@
 -- What the definition answers at the start of a file, and where a lawful frame ends the rest.
-use mathlib.Core.Bool.{true, false}
+use mathlib.Core.Bool.{false}
 use mathlib.Core.List.{List, []}
 use mathlib.Core.Path.{_≡_, ap, _∙_}
-use Prim.Native.Nat.{ℕ, _+_, _-_, _≤_}
+use Prim.Native.Nat.{ℕ, _+_, _-_}
 use native.Mathlib.Omega.{arith}
 use lib.Dec.{eqb}
 use lib.ListN.{length}
@@ -10,8 +10,8 @@ use Rattle.std.proofs.shelf.Lists.{length-append}
 use Rattle.std.proofs.shelf.Tests.{cond-true, cond-false, eq-eqb, ne-eqb}
 use Rattle.std.specs.declared.result.Result.the-variants.{Ok}
 use Rattle.pass.specs.Layout.{Parts, encoded, Behind}
-use Rattle.pass.specs.Reading.{Cut, lastOf}
-use Rattle.pass.specs.Walking.{Point, Handed, none, handed, handOut, tell, answer, move, next}
+use Rattle.pass.specs.Reading.{lastOf}
+use Rattle.pass.specs.Walking.{Point, none, handed, handOut, tell, answer, move, next}
 use Rattle.pass.proofs.RoundTrip.{read-back, shorter}
 
 pub none-answered : (w : Point) → w .rest ≡ [] → answer w ≡ none

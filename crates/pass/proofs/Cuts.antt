@@ -1,9 +1,9 @@
 -- The parts that a trailer points back over, joined again, are the bytes that they were cut from, and have the lengths
 -- that the trailer tells.
 use mathlib.Core.Bool.{Bool, true, false, cond, _&&_}
-use mathlib.Core.List.{List, [], _∷_, _++_, append-assoc}
+use mathlib.Core.List.{List, [], _++_, append-assoc}
 use mathlib.Core.Path.{_≡_, refl, ap, sym, _∙_}
-use Prim.Native.Nat.{ℕ, _+_, _-_, _≤_, _<_, min}
+use Prim.Native.Nat.{ℕ, _+_, _-_, _≤_, _<_}
 use native.Mathlib.Omega.{arith}
 use lib.Dec.{eqb, leb}
 use lib.ListN.{length, getD, take, drop}
@@ -16,10 +16,9 @@ use Rattle.wire.specs.declared.fault.Cause.{Cause}
 use Rattle.wire.specs.declared.fault.Cause.the-variants.{BadLength, Overrun}
 use Rattle.wire.specs.Faults.{causeNumber}
 use Rattle.wire.specs.Limits.{headerMax, messageMax}
-use Rattle.wire.specs.declared.kind.Kind.{Kind}
 use Rattle.wire.specs.declared.kind.Kind.the-variants.{Idle}
 use Rattle.pass.specs.declared.trailer.Trailer.{Trailer}
-use Rattle.pass.specs.Layout.{Parts, lengths, trailerBytes, span, takes, withinLimits, encoded, Lawful, Behind, Refusal, badLength, overrun}
+use Rattle.pass.specs.Layout.{Parts, lengths, trailerBytes, span, takes, withinLimits, encoded, Behind, Refusal, badLength, overrun}
 use Rattle.pass.specs.Reading.{trailerOf, Cut, partsAt, cutAt, checked, locate, lastOf}
 use Rattle.pass.proofs.Trailers.{Ends, trailer-read}
 

@@ -1,7 +1,7 @@
 -- A lawful frame is read back from the bytes that it ends: its last eight bytes tell its kind and lengths, which cut it
 -- where it was joined. So bytes end in at most one lawful frame.
-use mathlib.Core.List.{List, [], _∷_, _++_, append-assoc}
-use mathlib.Core.Path.{_≡_, refl, ap, sym, _∙_}
+use mathlib.Core.List.{List, _++_, append-assoc}
+use mathlib.Core.Path.{_≡_, refl, ap, _∙_}
 use Prim.Native.Nat.{ℕ, _+_, _-_, _*_, _/_, _%_, _≤_}
 use native.Mathlib.Omega.{arith}
 use native.Mathlib.Nat.{mod-add-div'}
@@ -10,7 +10,6 @@ use lib.ListN.{length, getD, take, drop}
 use Rattle.std.proofs.shelf.Lists.{length-append, getD-append-right, take-at, drop-at}
 use Rattle.std.proofs.shelf.Tests.{cond-false, cond-true, le-ltb, eq-eqb}
 use Rattle.std.specs.declared.option.Option.the-variants.{Some}
-use Rattle.std.specs.declared.result.Result.{Result}
 use Rattle.std.specs.declared.result.Result.the-variants.{Ok, Err}
 use Rattle.wire.specs.Kinds.{kindOf}
 use Rattle.wire.specs.declared.fault.FrameFault.{FrameFault}

@@ -13,7 +13,7 @@ use Rattle.std.proofs.shelf.Tests.{eqb-true, eqb-false, ltb-true, ltb-false}
 use Rattle.std.specs.Results.{Cases}
 use Rattle.std.specs.declared.option.Option.{Option}
 use Rattle.std.specs.declared.option.Option.the-variants.{Some, None}
-use Rattle.std.specs.declared.result.Result.the-variants.{Ok, Err}
+use Rattle.std.specs.declared.result.Result.the-variants.{Err}
 use Rattle.wire.specs.Kinds.{kindNumber, kindOf}
 use Rattle.wire.specs.Limits.{nonceMax}
 use Rattle.wire.specs.Faults.{causeNumber}

@@ -6,7 +6,6 @@ use Rattle.wire.specs.declared.fault.RecordFault.{RecordFault}
 use Rattle.wire.specs.declared.fault.RecordFault.the-variants.{HeaderTooLong, BufferTooShort, MessageTooLong, KeyLength, TagLength, TagWrong}
 use Rattle.wire.specs.declared.fault.Cause.{Cause}
 use Rattle.wire.specs.declared.fault.Cause.the-variants.{Record, Short, NoMark, UnknownKind, BadLength, Overrun, OtherCipher, NonceTooLong}
-use Rattle.wire.specs.declared.fault.FrameFault.{FrameFault}
 use Rattle.wire.specs.declared.fault.PassFault.{PassFault}
 use Rattle.wire.specs.declared.fault.ListFault.{ListFault}
 use Rattle.wire.specs.declared.fault.ListFault.the-variants.{Pass, InputTooLong}

@@ -1,3 +1,4 @@
+-- The loop keeps the lines written so far, and the rest of the walk falls.
 use lib.ListN.{length}
 use Rattle.std.specs.Of.String.{string-bytes}
 use Rattle.pass.specs.View.{pointOf}
