@@ -1,6 +1,5 @@
 // How long a listing takes: tested, since no contract speaks of time.
 use listing::list::listing;
-use std::alloc::Global;
 use std::test::*;
 use std::time::Instant;
 

@@ -16,6 +16,7 @@ use Rattle.pass.specs.Layout.{Parts}
 use Rattle.pass.specs.Reading.{Cut}
 use Rattle.pass.specs.Walking.{Handed, Told, none, handed, refused, Point}
 
+-- what a frame carries: its kind and its parts as bytes
 abbrev pub partsOf : Content → Parts
 partsOf (Idle fill) = record { kind = kind.Idle; nonce = []; header = []; body = fill .now; tag = [] }
 partsOf (Sealed suite nonce header body tag) =
@@ -27,11 +28,12 @@ partsOf (Sealed suite nonce header body tag) =
       tag = tag .now;
     }
 
--- the same inside a result
+-- a frame and the bytes before it, inside a result
 abbrev pub cutIn : {E : Type 0} → Result Last E → Result Cut E
 cutIn (Err e) = Err e
 cutIn (Ok l) = Ok (record { rest = l .rest .now; parts = partsOf (l .content) })
 
+-- a frame as it is handed out
 abbrev pub handedOf : Frame → Handed
 handedOf f = record { parts = partsOf (f .content); number = f .number; place = f .place; len = f .len }
 
@@ -40,10 +42,12 @@ abbrev pub handedIn : {E : Type 0} → Result Frame E → Result Handed E
 handedIn (Ok f) = Ok (handedOf f)
 handedIn (Err e) = Err e
 
+-- what the walk answers
 abbrev pub told : Result (Option Frame) PassFault → Told
 told (Ok None) = none
 told (Ok (Some f)) = handed (handedOf f)
 told (Err e) = refused (passNumber e) (e .fault .place) (e .frame)
 
+-- where a walk stands
 abbrev pub pointOf : Walk → Point
 pointOf w = record { rest = w .rest .now; number = w .number }

@@ -46,7 +46,7 @@ returns-in-Break-frame c =
     let some = eqb-false (length (w .rest)) 0 (sym (c .if-is-empty .ensures tt)) in
     let x = c .in-Break-frame .field-0 .0 in
     let e = err-from-errBy (c .from-residual .result) (c .from-residual .ensures .1) in
-    let d = placed-err (c .take-last .result) (w .number) x (sym (c .in-Break-frame .ensures tt)) in
+    let d = placed-err (c .take-last .result) _ x (sym (c .in-Break-frame .ensures tt)) in
     let why = cases-at-err (there w v) (not-there w) (x .0) (d .0) (c .take-last .ensures .cases) in
     let q = refuses w some (x .0) v (ap handedIn (sym (d .0)) ∙ c .take-last .ensures .value) (c .take-last .ensures .after) why in
     let p = subst (λ r. Promise w r v) (carried (c .from-residual .result) (e .0) x (w .number) (e .1) (e .2) (d .1)) q in
@@ -58,7 +58,7 @@ returns c =
     let v = pointOf (c .take-last .last .self) in
     let some = eqb-false (length (w .rest)) 0 (sym (c .if-is-empty .ensures tt)) in
     let f = c .in-Continue-frame .frame in
-    let ok = placed-ok (c .take-last .result) (w .number) f (sym (c .in-Continue-frame .ensures tt)) in
+    let ok = placed-ok (c .take-last .result) _ f (sym (c .in-Continue-frame .ensures tt)) in
     let ends = cases-at-ok (there w v) (not-there w) f ok (c .take-last .ensures .cases) in
     let p = hands w some (handedOf f) v (ap handedIn (sym ok) ∙ c .take-last .ensures .value) (c .take-last .ensures .after) ends in
     record { value = p .value; after = p .after; step = p .step; run = p .run; rule = p .rule; stays = p .stays }
