@@ -1,0 +1,158 @@
+-- A block by its bytes, for every kind: what reads back after a byte is replaced or a string is put in, that xor goes byte
+-- by byte, and that blocks with the same bytes are the same.
+use mathlib.Core.Bool.{Bool, true, false, cond}
+use mathlib.Core.List.{List, [], _∷_, map}
+use mathlib.Core.Logic.{_⊎_, inl, inr, ⊎-elim}
+use mathlib.Core.Path.{_≡_, refl, ap, ap₂, sym, _∙_}
+use Prim.Native.Nat.{ℕ, zero, suc, _+_, _-_, _*_, _/_, _%_, _^_, _<_, _≤_}
+use native.Mathlib.Nat.{mod-lt, add-zero, zero-add, zero-div}
+use native.Mathlib.Omega.{arith}
+use lib.Bits.{bitXor, xor-shr, xor-mod}
+use lib.Dec.{ltb}
+use lib.ListN.{length, getD}
+use lib.Pow.{pow-pos}
+use Rattle.std.proofs.shelf.Counted.{length-map-counting, getD-map-counting}
+use Rattle.std.proofs.shelf.Lists.{getD-past}
+use Rattle.std.proofs.shelf.Tests.{cond-true, cond-false, lt-ltb, le-ltb, cases-lt, cases-order}
+use Rattle.std.specs.Iters.{counting}
+use Rattle.block.specs.Form.{Form}
+use Rattle.block.specs.Blocks.{shift, replaced, zeroBlock, xored, byteAt, withByte, bytesOf, filled, blockOf}
+use Rattle.block.proofs.Digits.{byte-mod, replaced-same, replaced-above, replaced-below, same-digits}
+use Rattle.block.proofs.Xor.{number-mod, number-xored, number-zero}
+
+module _ {B : Type 0} (form : Form B)
+    (read : (a : B) → form .block (form .number a) ≡ a)
+    (made : (x : ℕ) → form .number (form .block x) ≡ x % 2 ^ (8 * form .size)) where
+  byte-at : (a : B) (i : ℕ) → i < form .size → byteAt form a i ≡ form .number a / 2 ^ shift (form .size) i % 256
+  byte-at a i h = cond-true _ _ _ (lt-ltb i (form .size) h)
+
+  pub byte-past : (a : B) (i : ℕ) → form .size ≤ i → byteAt form a i ≡ 0
+  byte-past a i h = cond-false _ _ _ (le-ltb i (form .size) h)
+
+  -- a byte of the block of a number is that of the number
+  byte-block : (x i : ℕ) → i < form .size → byteAt form (form .block x) i ≡ x / 2 ^ shift (form .size) i % 256
+  byte-block x i h =
+      let within : 8 * (form .size - 1 - i) + 8 ≤ 8 * form .size = omega arith in
+      byte-at (form .block x) i h
+      ∙ ap (λ y. y / 2 ^ shift (form .size) i % 256) (made x)
+      ∙ byte-mod x (shift (form .size) i) (8 * form .size) within
+
+  put-at : (a : B) (p v : ℕ) → p < form .size → withByte form a p v ≡ form .block (replaced (form .number a) (shift (form .size) p) v)
+  put-at a p v h = cond-true _ _ _ (lt-ltb p (form .size) h)
+
+  pub byte-put-same : (a : B) (p v : ℕ) → p < form .size → byteAt form (withByte form a p v) p ≡ v % 256
+  byte-put-same a p v h =
+      ap (λ b. byteAt form b p) (put-at a p v h)
+      ∙ byte-block _ p h
+      ∙ replaced-same (form .number a) (shift (form .size) p) v
+
+  other : (a : B) (p v i : ℕ) → p < form .size → i < form .size → (p < i) ⊎ (i < p) → byteAt form (withByte form a p v) i ≡ byteAt form a i
+  other a p v i h l way =
+      ap (λ b. byteAt form b i) (put-at a p v h)
+      ∙ byte-block _ i l
+      ∙ ⊎-elim
+      (λ less. replaced-below (form .number a) (shift (form .size) p) v (shift (form .size) i) (omega arith))
+      (λ more. replaced-above (form .number a) (shift (form .size) p) v (shift (form .size) i) (omega arith))
+      way
+      ∙ sym (byte-at a i l)
+
+  pub byte-put-other : (a : B) (p v i : ℕ) → (p ≡ i → ⊥) → byteAt form (withByte form a p v) i ≡ byteAt form a i
+  byte-put-other a p v i apart = ⊎-elim within past (cases-lt i (form .size))
+    where
+      within : i < form .size → byteAt form (withByte form a p v) i ≡ byteAt form a i
+      within l =
+          ⊎-elim
+          (λ h. other a p v i h l (⊎-elim (λ e. absurd (apart e)) (λ way. way) (cases-order p i)))
+          (λ h. ap (λ b. byteAt form b i) (cond-false _ _ _ (le-ltb p (form .size) h)))
+          (cases-lt p (form .size))
+      past : form .size ≤ i → byteAt form (withByte form a p v) i ≡ byteAt form a i
+      past l = byte-past (withByte form a p v) i l ∙ sym (byte-past a i l)
+
+  pub byte-lt : (a : B) (i : ℕ) → byteAt form a i < 256
+  byte-lt a i =
+      ⊎-elim
+      (λ l. rw (byte-at a i l) (mod-lt (form .number a / 2 ^ shift (form .size) i) (pow-pos 8)))
+      (λ l. rw (byte-past a i l) (omega arith))
+      (cases-lt i (form .size))
+
+  pub byte-xor : (a b : B) (i : ℕ) → byteAt form (xored form a b) i ≡ bitXor (byteAt form a i) (byteAt form b i)
+  byte-xor a b i = ⊎-elim within past (cases-lt i (form .size))
+    where
+      within : i < form .size → byteAt form (xored form a b) i ≡ bitXor (byteAt form a i) (byteAt form b i)
+      within l =
+          let s = shift (form .size) i in
+          byte-at (xored form a b) i l
+          ∙ ap (λ x. x / 2 ^ s % 256) (number-xored form read made a b)
+          ∙ ap (λ x. x % 256) (xor-shr (form .number a) (form .number b) s)
+          ∙ xor-mod (form .number a / 2 ^ s) (form .number b / 2 ^ s) 8
+          ∙ sym (ap₂ bitXor (byte-at a i l) (byte-at b i l))
+      past : form .size ≤ i → byteAt form (xored form a b) i ≡ bitXor (byteAt form a i) (byteAt form b i)
+      past l = byte-past (xored form a b) i l ∙ sym (ap₂ bitXor (byte-past a i l) (byte-past b i l))
+
+  pub same-bytes : (a b : B) → ((i : ℕ) → i < form .size → byteAt form a i ≡ byteAt form b i) → a ≡ b
+  same-bytes a b same =
+      let digits : (k : ℕ) → k < form .size → form .number a / 2 ^ (8 * k) % 256 ≡ form .number b / 2 ^ (8 * k) % 256 =
+      λ k l.
+      let i : form .size - 1 - k < form .size = omega arith in
+      let back : form .size - 1 - (form .size - 1 - k) ≡ k = omega arith in
+      rw back at (sym (byte-at a (form .size - 1 - k) i) ∙ same (form .size - 1 - k) i ∙ byte-at b (form .size - 1 - k) i) in
+      sym (read a)
+      ∙ ap
+      (form .block)
+      (sym (number-mod form read made a)
+      ∙ same-digits (form .number a) (form .number b) (form .size) digits
+      ∙ number-mod form read made b)
+      ∙ read b
+
+  pub length-bytes : (a : B) → length (bytesOf form a) ≡ form .size
+  length-bytes a = length-map-counting (byteAt form a) 0 (form .size)
+
+  pub getD-bytes : (a : B) (i : ℕ) → getD (bytesOf form a) i 0 ≡ byteAt form a i
+  getD-bytes a i =
+      ⊎-elim
+      (λ l. getD-map-counting (byteAt form a) 0 (form .size) i i 0 l (omega arith))
+      (λ l. getD-past (bytesOf form a) i 0 (omega (arith, length-bytes a)) ∙ sym (byte-past a i l))
+      (cases-lt i (form .size))
+
+  pub byte-zero : (i : ℕ) → byteAt form (zeroBlock form) i ≡ 0
+  byte-zero i =
+      ⊎-elim
+      (λ l. byte-at (zeroBlock form) i l ∙ ap (λ x. x / 2 ^ shift (form .size) i % 256) (number-zero form read made) ∙ ap (λ x. x % 256) (zero-div (2 ^ shift (form .size) i)))
+      (byte-past (zeroBlock form) i)
+      (cases-lt i (form .size))
+
+  -- a string put in from a place on leaves what is before the place
+  filled-before : (xs : List ℕ) (a : B) (p i : ℕ) → i < p → byteAt form (filled form a p xs) i ≡ byteAt form a i
+  filled-before [] a p i l = refl
+  filled-before (x ∷ xs) a p i l =
+      filled-before xs (withByte form a p x) (p + 1) i (omega arith)
+      ∙ byte-put-other a p x i (λ e. omega arith)
+
+  filled-past : (xs : List ℕ) (a : B) (p i : ℕ) → p + length xs ≤ i → byteAt form (filled form a p xs) i ≡ byteAt form a i
+  filled-past [] a p i l = refl
+  filled-past (x ∷ xs) a p i l =
+      filled-past xs (withByte form a p x) (p + 1) i (omega arith)
+      ∙ byte-put-other a p x i (λ e. omega arith)
+
+  filled-at : (xs : List ℕ) (a : B) (p j : ℕ) → j < length xs → p + j < form .size → byteAt form (filled form a p xs) (p + j) ≡ getD xs j 0 % 256
+  filled-at [] a p j l h = absurd (omega arith)
+  filled-at (x ∷ xs) a p zero l h =
+      rw add-zero
+      (filled-before xs (withByte form a p x) (p + 1) p (omega arith)
+      ∙ byte-put-same a p x (omega arith))
+  filled-at (x ∷ xs) a p (suc j) l h =
+      let e : p + suc j ≡ p + 1 + j = omega arith in
+      rw e (filled-at xs (withByte form a p x) (p + 1) j (omega arith) (omega arith))
+
+  pub byte-block-of : (xs : List ℕ) (i : ℕ) → i < form .size → byteAt form (blockOf form xs) i ≡ getD xs i 0 % 256
+  byte-block-of xs i h =
+      ⊎-elim
+      (λ l. rw zero-add at (filled-at xs (zeroBlock form) 0 i l (omega arith)))
+      (λ l. filled-past xs (zeroBlock form) 0 i (omega arith)
+          ∙ byte-zero i
+          ∙ sym (ap (λ x. x % 256) (getD-past xs i 0 l)))
+      (cases-lt i (length xs))
+
+  -- a string that begins with a block's bytes makes that block
+  pub block-of-bytes : (a : B) (xs : List ℕ) → ((i : ℕ) → i < form .size → getD xs i 0 % 256 ≡ byteAt form a i) → blockOf form xs ≡ a
+  block-of-bytes a xs h = same-bytes (blockOf form xs) a (λ i l. byte-block-of xs i l ∙ h i l)

@@ -1,0 +1,4 @@
+pub mod Xor
+pub mod Same
+pub mod Digits
+pub mod Bytes

@@ -1,0 +1,133 @@
+// A kind of block: what every kind offers, and the laws that it proves.
+ghost use mathlib.Core.Logic.{_⊎_};
+ghost use mathlib.Core.Path.{_≡_};
+ghost use Prim.Native.Nat.{ℕ, _%_, _*_, _^_, _<_, _≤_};
+ghost use lib.ListN.{getD};
+ghost use Rattle.block.specs.Form.{Form};
+ghost use Rattle.block.specs.Blocks.{zeroBlock, endBlock, xored, byteAt, withByte, shiftedLeft, doubled, following, replaced, blockOf};
+
+pub trait Block: Copy {
+    ghost form: { Form Self };
+
+    law sized: { (form .size ≡ 8) ⊎ (form .size ≡ 16) };
+
+    law read: { (a : Self) → form .block (form .number a) ≡ a };
+
+    law made: { (x : ℕ) → form .number (form .block x) ≡ x % 2 ^ (8 * form .size) };
+
+    law associative: { (a b c : Self) → xored form (xored form a b) c ≡ xored form a (xored form b c) };
+
+    law commutative: { (a b : Self) → xored form a b ≡ xored form b a };
+
+    law neutral: { (a : Self) → xored form (zeroBlock form) a ≡ a };
+
+    law cancelling: { (a : Self) → xored form a a ≡ zeroBlock form };
+
+    // n, the bytes of a block.
+    fn width() -> usize
+        ensures { λ r. ⌜ r ≡ form .size ⌝ };
+
+    // The number that the block is read as: its first byte is the highest.
+    fn number(self) -> u128
+        ensures { λ r. ⌜ r ≡ form .number self ⌝ };
+
+    // The block of a number, modulo 2 to the power 8n.
+    fn from_number(number: u128) -> Self
+        ensures { λ r. ⌜ r ≡ form .block number ⌝ };
+
+    fn zero() -> Self
+        ensures { λ r. ⌜ r ≡ zeroBlock form ⌝ }
+    {
+        Self::from_number(0)
+    }
+
+    // The block whose last byte is `last` and whose others are 00.
+    fn ending(last: u8) -> Self
+        ensures { λ r. ⌜ r ≡ endBlock form last ⌝ }
+    {
+        Self::from_number(u128::from(last))
+    }
+
+    fn xor(self, other: Self) -> Self
+        ensures { λ r. ⌜ r ≡ xored form self other ⌝ }
+    {
+        Self::from_number(self.number() ^ other.number())
+    }
+
+    // Shifted left by one bit; the top bit is dropped.
+    fn shift_left(self) -> Self
+        ensures { λ r. ⌜ r ≡ shiftedLeft form self ⌝ }
+    {
+        Self::from_number(self.number() << 1)
+    }
+
+    fn double(self) -> Self
+        ensures { λ r. ⌜ r ≡ doubled form self ⌝ }
+    {
+        let shifted = self.shift_left();
+        if self.byte(0) < 0x80 {
+            return shifted;
+        }
+        let reduction = if Self::width() == 16 { 0x87 } else { 0x1B };
+        shifted.xor(Self::ending(reduction))
+    }
+
+    // One more, modulo 2 to the power 8n.
+    fn next(self) -> Self
+        ensures { λ r. ⌜ r ≡ following form self ⌝ }
+    {
+        Self::from_number(self.number().wrapping_add(1))
+    }
+
+    // The byte at a place from the block's first; 00 past its last.
+    fn byte(self, place: usize) -> u8
+        ensures { λ r. ⌜ r ≡ byteAt form self place ⌝ }
+    {
+        let width = Self::width();
+        if place >= width {
+            return 0;
+        }
+        ((self.number() >> (8 * (width - 1 - place))) % 256) as u8
+    }
+
+    // The block with another byte at a place; past its last, nothing is replaced.
+    fn put(self, place: usize, byte: u8) -> Self
+        ensures { λ r. ⌜ r ≡ withByte form self place byte ⌝ }
+    {
+        let width = Self::width();
+        if place >= width {
+            return self;
+        }
+        Self::from_number(with_byte(self.number(), 8 * (width - 1 - place), byte))
+    }
+
+    // The block whose bytes are the first n of a string, and 00 where it has no more.
+    fn from_bytes(bytes: &[u8]) -> Self
+        ensures value { λ r. ⌜ r ≡ blockOf form (now (bytes .entry)) ⌝ }
+        ensures places { λ r. ⌜ ((i : ℕ) → i < form .size → byteAt form r i ≡ getD (now (bytes .entry)) i 0) ⌝ }
+    {
+        let mut block = Self::zero();
+        for (place, byte) in bytes.iter().enumerate() {
+            block = block.put(place, *byte);
+        }
+        block
+    }
+}
+
+// What the lowest bit of a byte counts for.
+fn unit(shift: usize) -> u128
+    requires { ⌜ shift ≤ 120 ⌝ }
+    ensures value { λ r. ⌜ r ≡ 2 ^ shift ⌝ }
+    ensures bound { λ r. ⌜ 0 < r ⌝ }
+{
+    1 << shift
+}
+
+// The number with another byte at a place, told by its lowest bit.
+fn with_byte(number: u128, shift: usize, byte: u8) -> u128
+    requires { ⌜ shift ≤ 120 ⌝ }
+    ensures { λ r. ⌜ r ≡ replaced number shift byte ⌝ }
+{
+    let unit = unit(shift);
+    (number / unit / 256 * 256 + u128::from(byte)) * unit + number % unit
+}

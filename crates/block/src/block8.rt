@@ -1,0 +1,8 @@
+// A block of 8 bytes.
+ghost use Prim.Native.Nat.{_<_, _^_};
+
+#[derive(Clone, Copy)]
+pub struct Block8 {
+    pub(crate) number: u64,
+    ghost fits: { number < 2 ^ 64 },
+}

@@ -1,0 +1,3 @@
+pub mod Naming
+pub mod Bench
+pub mod Loading
