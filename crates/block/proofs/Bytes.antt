@@ -17,12 +17,11 @@ use Rattle.std.proofs.shelf.Tests.{cond-true, cond-false, lt-ltb, le-ltb, cases
 use Rattle.std.specs.Iters.{counting}
 use Rattle.block.specs.Form.{Form}
 use Rattle.block.specs.Blocks.{shift, replaced, zeroBlock, xored, byteAt, withByte, bytesOf, filled, blockOf}
+use Rattle.block.specs.Lawful.{Lawful}
 use Rattle.block.proofs.Digits.{byte-mod, replaced-same, replaced-above, replaced-below, same-digits}
 use Rattle.block.proofs.Xor.{number-mod, number-xored, number-zero}
 
-module _ {B : Type 0} (form : Form B)
-    (read : (a : B) → form .block (form .number a) ≡ a)
-    (made : (x : ℕ) → form .number (form .block x) ≡ x % 2 ^ (8 * form .size)) where
+module _ {B : Type 0} (form : Form B) (lawful : Lawful form) where
   byte-at : (a : B) (i : ℕ) → i < form .size → byteAt form a i ≡ form .number a / 2 ^ shift (form .size) i % 256
   byte-at a i h = cond-true _ _ _ (lt-ltb i (form .size) h)
 
@@ -34,7 +33,7 @@ module _ {B : Type 0} (form : Form B)
   byte-block x i h =
       let within : 8 * (form .size - 1 - i) + 8 ≤ 8 * form .size = omega arith in
       byte-at (form .block x) i h
-      ∙ ap (λ y. y / 2 ^ shift (form .size) i % 256) (made x)
+      ∙ ap (λ y. y / 2 ^ shift (form .size) i % 256) (lawful .made x)
       ∙ byte-mod x (shift (form .size) i) (8 * form .size) within
 
   put-at : (a : B) (p v : ℕ) → p < form .size → withByte form a p v ≡ form .block (replaced (form .number a) (shift (form .size) p) v)
@@ -82,7 +81,7 @@ module _ {B : Type 0} (form : Form B)
       within l =
           let s = shift (form .size) i in
           byte-at (xored form a b) i l
-          ∙ ap (λ x. x / 2 ^ s % 256) (number-xored form read made a b)
+          ∙ ap (λ x. x / 2 ^ s % 256) (number-xored form (lawful .read) (lawful .made) a b)
           ∙ ap (λ x. x % 256) (xor-shr (form .number a) (form .number b) s)
           ∙ xor-mod (form .number a / 2 ^ s) (form .number b / 2 ^ s) 8
           ∙ sym (ap₂ bitXor (byte-at a i l) (byte-at b i l))
@@ -96,13 +95,13 @@ module _ {B : Type 0} (form : Form B)
       let i : form .size - 1 - k < form .size = omega arith in
       let back : form .size - 1 - (form .size - 1 - k) ≡ k = omega arith in
       rw back at (sym (byte-at a (form .size - 1 - k) i) ∙ same (form .size - 1 - k) i ∙ byte-at b (form .size - 1 - k) i) in
-      sym (read a)
+      sym (lawful .read a)
       ∙ ap
       (form .block)
-      (sym (number-mod form read made a)
+      (sym (number-mod form (lawful .read) (lawful .made) a)
       ∙ same-digits (form .number a) (form .number b) (form .size) digits
-      ∙ number-mod form read made b)
-      ∙ read b
+      ∙ number-mod form (lawful .read) (lawful .made) b)
+      ∙ lawful .read b
 
   pub length-bytes : (a : B) → length (bytesOf form a) ≡ form .size
   length-bytes a = length-map-counting (byteAt form a) 0 (form .size)
@@ -117,7 +116,7 @@ module _ {B : Type 0} (form : Form B)
   pub byte-zero : (i : ℕ) → byteAt form (zeroBlock form) i ≡ 0
   byte-zero i =
       ⊎-elim
-      (λ l. byte-at (zeroBlock form) i l ∙ ap (λ x. x / 2 ^ shift (form .size) i % 256) (number-zero form read made) ∙ ap (λ x. x % 256) (zero-div (2 ^ shift (form .size) i)))
+      (λ l. byte-at (zeroBlock form) i l ∙ ap (λ x. x / 2 ^ shift (form .size) i % 256) (number-zero form (lawful .read) (lawful .made)) ∙ ap (λ x. x % 256) (zero-div (2 ^ shift (form .size) i)))
       (byte-past (zeroBlock form) i)
       (cases-lt i (form .size))
 

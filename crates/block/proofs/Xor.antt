@@ -1,5 +1,5 @@
--- The four laws of xor, for every kind of block: the number of a xor is the xor of the numbers, and a block is given by its
--- number.
+-- A kind whose blocks are given by their numbers is lawful: the number of a xor is the xor of the numbers.
+use mathlib.Core.Logic.{_⊎_}
 use mathlib.Core.Path.{_≡_, refl, ap, sym, _∙_}
 use Prim.Native.Nat.{ℕ, _*_, _%_, _^_, _<_}
 use native.Mathlib.Nat.{mod-lt, mod-eq-of-lt}
@@ -7,6 +7,7 @@ use lib.Bits.{bitXor, xor-assoc, xor-comm, xor-zero-l, xor-self, xor-mod}
 use lib.Pow.{pow-pos}
 use Rattle.block.specs.Form.{Form}
 use Rattle.block.specs.Blocks.{zeroBlock, xored}
+use Rattle.block.specs.Lawful.{Lawful}
 
 module _ {B : Type 0} (form : Form B)
     (read : (a : B) → form .block (form .number a) ≡ a)
@@ -27,20 +28,32 @@ module _ {B : Type 0} (form : Form B)
   pub number-zero : form .number (zeroBlock form) ≡ 0
   number-zero = made 0 ∙ mod-eq-of-lt (pow-pos (8 * form .size))
 
-  pub associative : (a b c : B) → xored form (xored form a b) c ≡ xored form a (xored form b c)
+  associative : (a b c : B) → xored form (xored form a b) c ≡ xored form a (xored form b c)
   associative a b c =
       ap (λ x. form .block (bitXor x (form .number c))) (number-xored a b)
       ∙ ap (form .block) (xor-assoc (form .number a) (form .number b) (form .number c))
       ∙ sym (ap (λ x. form .block (bitXor (form .number a) x)) (number-xored b c))
 
-  pub commutative : (a b : B) → xored form a b ≡ xored form b a
+  commutative : (a b : B) → xored form a b ≡ xored form b a
   commutative a b = ap (form .block) (xor-comm (form .number a) (form .number b))
 
-  pub neutral : (a : B) → xored form (zeroBlock form) a ≡ a
+  neutral : (a : B) → xored form (zeroBlock form) a ≡ a
   neutral a =
       ap (λ x. form .block (bitXor x (form .number a))) number-zero
       ∙ ap (form .block) (xor-zero-l (form .number a))
       ∙ read a
 
-  pub cancelling : (a : B) → xored form a a ≡ zeroBlock form
+  cancelling : (a : B) → xored form a a ≡ zeroBlock form
   cancelling a = ap (form .block) (xor-self (form .number a))
+
+  pub lawful-by-number : (form .size ≡ 8) ⊎ (form .size ≡ 16) → Lawful form
+  lawful-by-number sized =
+      record {
+        sized = sized;
+        read = read;
+        made = made;
+        associative = associative;
+        commutative = commutative;
+        neutral = neutral;
+        cancelling = cancelling;
+      }

@@ -1,3 +1,4 @@
 pub mod Form
 pub mod Blocks
+pub mod Lawful
 pub mod Kinds

@@ -1,27 +1,15 @@
 // A kind of block: what every kind offers, and the laws that it proves.
-ghost use mathlib.Core.Logic.{_⊎_};
 ghost use mathlib.Core.Path.{_≡_};
-ghost use Prim.Native.Nat.{ℕ, _%_, _*_, _^_, _<_, _≤_};
+ghost use Prim.Native.Nat.{ℕ, _^_, _<_, _≤_};
 ghost use lib.ListN.{getD};
 ghost use Rattle.block.specs.Form.{Form};
+ghost use Rattle.block.specs.Lawful.{Lawful};
 ghost use Rattle.block.specs.Blocks.{zeroBlock, endBlock, xored, byteAt, withByte, shiftedLeft, doubled, following, replaced, blockOf};
 
 pub trait Block: Copy {
     ghost form: { Form Self };
 
-    law sized: { (form .size ≡ 8) ⊎ (form .size ≡ 16) };
-
-    law read: { (a : Self) → form .block (form .number a) ≡ a };
-
-    law made: { (x : ℕ) → form .number (form .block x) ≡ x % 2 ^ (8 * form .size) };
-
-    law associative: { (a b c : Self) → xored form (xored form a b) c ≡ xored form a (xored form b c) };
-
-    law commutative: { (a b : Self) → xored form a b ≡ xored form b a };
-
-    law neutral: { (a : Self) → xored form (zeroBlock form) a ≡ a };
-
-    law cancelling: { (a : Self) → xored form a a ≡ zeroBlock form };
+    law lawful: { Lawful form };
 
     // n, the bytes of a block.
     fn width() -> usize

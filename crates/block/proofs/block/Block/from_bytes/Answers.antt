@@ -29,6 +29,6 @@ returns g c =
       value = value;
       places = λ j l.
           ap (λ b. byteAt form b j) value
-          ∙ byte-block-of form (g .Self·Block·met .read) (g .Self·Block·met .made) xs j l
+          ∙ byte-block-of form (g .Self·Block·met .lawful) xs j l
           ∙ mod-eq-of-lt (fits-lt-pow (c .typed .bytes j));
     }

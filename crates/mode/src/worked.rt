@@ -1,0 +1,42 @@
+// A value worked by hand. The cipher is the bench cipher with the key 00 00 00 00 00 00 00 01.
+#[derive(Clone, Copy)]
+pub enum Worked {
+    Doubled8 {
+        block: &'static [u8],
+        answer: &'static [u8],
+    },
+    Doubled16 {
+        block: &'static [u8],
+        answer: &'static [u8],
+    },
+    Next8 {
+        block: &'static [u8],
+        answer: &'static [u8],
+    },
+    Omac {
+        t: u8,
+        string: &'static [u8],
+        answer: &'static [u8],
+    },
+    Sealed {
+        nonce: &'static [u8],
+        header: &'static [u8],
+        message: &'static [u8],
+        ciphertext: &'static [u8],
+        tag_block: &'static [u8],
+    },
+    Opened {
+        nonce: &'static [u8],
+        header: &'static [u8],
+        ciphertext: &'static [u8],
+        tag: &'static [u8],
+        message: &'static [u8],
+    },
+    Refused {
+        nonce: &'static [u8],
+        header: &'static [u8],
+        ciphertext: &'static [u8],
+        tag: &'static [u8],
+        number: u8,
+    },
+}
