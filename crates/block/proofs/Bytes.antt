@@ -64,6 +64,7 @@ module _ {B : Type 0} (form : Form B) (lawful : Lawful form) where
           (λ h. other a p v i h l (⊎-elim (λ e. absurd (apart e)) (λ way. way) (cases-order p i)))
           (λ h. ap (λ b. byteAt form b i) (cond-false _ _ _ (le-ltb p (form .size) h)))
           (cases-lt p (form .size))
+
       past : form .size ≤ i → byteAt form (withByte form a p v) i ≡ byteAt form a i
       past l = byte-past (withByte form a p v) i l ∙ sym (byte-past a i l)
 
@@ -85,6 +86,7 @@ module _ {B : Type 0} (form : Form B) (lawful : Lawful form) where
           ∙ ap (λ x. x % 256) (xor-shr (form .number a) (form .number b) s)
           ∙ xor-mod (form .number a / 2 ^ s) (form .number b / 2 ^ s) 8
           ∙ sym (ap₂ bitXor (byte-at a i l) (byte-at b i l))
+
       past : form .size ≤ i → byteAt form (xored form a b) i ≡ bitXor (byteAt form a i) (byteAt form b i)
       past l = byte-past (xored form a b) i l ∙ sym (ap₂ bitXor (byte-past a i l) (byte-past b i l))
 
@@ -148,8 +150,8 @@ module _ {B : Type 0} (form : Form B) (lawful : Lawful form) where
       ⊎-elim
       (λ l. rw zero-add at (filled-at xs (zeroBlock form) 0 i l (omega arith)))
       (λ l. filled-past xs (zeroBlock form) 0 i (omega arith)
-          ∙ byte-zero i
-          ∙ sym (ap (λ x. x % 256) (getD-past xs i 0 l)))
+      ∙ byte-zero i
+      ∙ sym (ap (λ x. x % 256) (getD-past xs i 0 l)))
       (cases-lt i (length xs))
 
   -- a string that begins with a block's bytes makes that block

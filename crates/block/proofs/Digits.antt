@@ -54,8 +54,8 @@ replaced-above x s v t h =
     let all : t ≡ s + 8 + (t - s - 8) = omega arith in
     let cut : (z : ℕ) → z / 2 ^ t ≡ z / 2 ^ s / 256 / 2 ^ (t - s - 8) =
     λ z. ap (λ k. z / 2 ^ k) all
-        ∙ sym (shr-shr z (s + 8) (t - s - 8))
-        ∙ ap (λ q. q / 2 ^ (t - s - 8)) (sym (shr-shr z s 8)) in
+    ∙ sym (shr-shr z (s + 8) (t - s - 8))
+    ∙ ap (λ q. q / 2 ^ (t - s - 8)) (sym (shr-shr z s 8)) in
     ap (λ q. q % 256)
     (cut (replaced x s v)
     ∙ ap (λ q. q / 256 / 2 ^ (t - s - 8)) (digits-div (x / 2 ^ s / 256 * 256 + v % 256) (mod-lt x (pow-pos s)))

@@ -1,8 +1,8 @@
 // The two kinds of block offer what every kind does.
 ghost use Rattle.block.specs.Kinds.{form8, form16};
 use crate::block::Block;
-use crate::block16::Block16;
 use crate::block8::Block8;
+use crate::block16::Block16;
 
 pub impl Block for Block8 as Block8Block {
     ghost form = { form8 };

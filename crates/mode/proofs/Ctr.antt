@@ -17,7 +17,6 @@ use Rattle.block.specs.Blocks.{xored, byteAt, following, bytesOf, blockOf}
 use Rattle.block.proofs.Bytes.{byte-lt, byte-xor, length-bytes, getD-bytes, byte-block-of}
 use Rattle.mode.specs.Strings.{IsString, covered, ctr}
 use Rattle.mode.specs.Laws.{Ctr}
-
 use Rattle.mode.proofs.Undone.{undone}
 
 string-drop : (n : ℕ) (X : List ℕ) → IsString X → IsString (drop n X)
@@ -156,6 +155,7 @@ module _ {B : Type 0} (form : Form B) (lawful : Lawful form) (F : B → B) where
     where
       len : (X : List ℕ) → length (ctr form F S X) ≡ length X
       len X = length-covered _ S X ∙ omega (arith, enough (length X) (form .size) some)
+
       twice : (X : List ℕ) → IsString X → ctr form F S (ctr form F S X) ≡ X
       twice X h =
           ap (λ x. covered form F ((x + form .size - 1) / form .size) S (ctr form F S X)) (len X)

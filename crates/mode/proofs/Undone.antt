@@ -4,7 +4,6 @@ use Rattle.block.specs.Form.{Form}
 use Rattle.block.specs.Lawful.{Lawful}
 use Rattle.block.specs.Blocks.{xored}
 
-
 module _ {B : Type 0} (form : Form B) (lawful : Lawful form) where
   pub undone : (a k : B) → xored form (xored form a k) k ≡ a
   undone a k =

@@ -11,7 +11,7 @@ use Rattle.block.specs.declared.block8.Block8.{Block8}
 use Rattle.cipher.specs.Bench.{benchF, benchUnder}
 use Rattle.mode.specs.Strings.{omac, ciphertext, tagBlock, opening}
 use Rattle.mode.specs.declared.worked.Worked.{Worked}
-use Rattle.mode.specs.declared.worked.Worked.the-variants.{Doubled8, Doubled16, Next8, Omac, Sealed, Opened, Refused}
+use Rattle.mode.specs.declared.worked.Worked.the-variants.{Doubled8, Doubled16, Next8, Omac, Sealed, Opened}
 
 abbrev pub F : Block8 → Block8
 F = benchF (benchUnder (0 ∷ 0 ∷ 0 ∷ 0 ∷ 0 ∷ 0 ∷ 0 ∷ 1 ∷ []))
@@ -24,9 +24,9 @@ Holds (Omac t string answer) = bytesOf form8 (omac form8 F t (string .now)) ≡ 
 Holds (Sealed nonce header message text block) =
     (ciphertext form8 F (nonce .now) (message .now) ≡ text .now)
     × (bytesOf form8 (tagBlock form8 F (nonce .now) (header .now) (text .now)) ≡ block .now)
-Holds (Opened nonce header text tag message) =
+Holds (Opened nonce header text tag (Ok message)) =
     opening form8 F (nonce .now) (header .now) (text .now) (tag .now) ≡ Ok (message .now)
-Holds (Refused nonce header text tag number) =
+Holds (Opened nonce header text tag (Err number)) =
     (fault : RecordFault)
     × (opening form8 F (nonce .now) (header .now) (text .now) (tag .now) ≡ Err fault)
     × (recordNumber fault ≡ number)

@@ -7,11 +7,9 @@ use block::block::Block;
 // CTR twice gives a string back, so a ciphertext has one message.
 pub fn ctr_undoes_itself<B: Block>()
     ensures { λ _. ⌜ ((F : B → B) (S : B) (X : List ℕ) → Ctr form F S X) ⌝ }
-{
-}
+{}
 
 // Opening hands out the message that gives the ciphertext and the tag, if there is one.
 pub fn opening_is_unique<B: Block>()
     ensures { λ _. ⌜ ((F : B → B) (N H C T : List ℕ) → Opens form F N H C T) ⌝ }
-{
-}
+{}

@@ -67,14 +67,14 @@ pub fn table() -> [Worked; 12]
             header: &[],
             ciphertext: &[0xFF],
             tag: &[0x55, 0, 0, 0],
-            message: &[0x55],
+            answer: Ok(&[0x55]),
         },
-        Worked::Refused {
+        Worked::Opened {
             nonce: &[0xAA],
             header: &[],
             ciphertext: &[0xFF],
             tag: &[0x55, 0, 0, 1],
-            number: 6,
+            answer: Err(6),
         },
     ]
 }

@@ -25,18 +25,12 @@ pub enum Worked {
         ciphertext: &'static [u8],
         tag_block: &'static [u8],
     },
+    // The answer is the message, or the number of the refusal.
     Opened {
         nonce: &'static [u8],
         header: &'static [u8],
         ciphertext: &'static [u8],
         tag: &'static [u8],
-        message: &'static [u8],
-    },
-    Refused {
-        nonce: &'static [u8],
-        header: &'static [u8],
-        ciphertext: &'static [u8],
-        tag: &'static [u8],
-        number: u8,
+        answer: Result<&'static [u8], u8>,
     },
 }

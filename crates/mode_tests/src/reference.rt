@@ -1,0 +1,124 @@
+// EAX over whole strings, written as plainly as it can be, to run values by.
+use block::block::Block;
+use cipher::cipher::Cipher;
+use mode::sum::sum;
+use std::alloc::AllocError;
+use std::alloc::Global;
+use wire::fault::RecordFault;
+use wire::limits::is_tag_len;
+
+#[derive(Drop)]
+pub struct Sealed<B> {
+    pub ciphertext: Vec<u8>,
+    pub tag_block: B,
+}
+
+#[derive(Drop)]
+pub struct Eax<'a, C> {
+    pub cipher: &'a C,
+    pub heap: Global,
+}
+
+// The bytes of a block, from its first.
+pub fn bytes<B: Block>(heap: Global, block: B) -> Result<Vec<u8>, AllocError> {
+    let mut bytes = Vec::new(heap);
+    for place in 0..B::width() {
+        bytes.push(block.byte(place))?;
+    }
+    Ok(bytes)
+}
+
+impl<C: Cipher> Eax<'_, C> {
+    // Pads a string, and says what its last block is masked with.
+    fn padded(&self, string: &[u8]) -> Result<(Vec<u8>, C::Block), AllocError> {
+        let n = C::block_len().max(1);
+        let mask = self.cipher.encrypt(C::Block::ending(0)).double();
+        let mut padded = string.to_vec(self.heap)?;
+        if !string.is_empty() && string.len() % n == 0 {
+            return Ok((padded, mask));
+        }
+        padded.push(0x80)?;
+        for _ in 0..n {
+            if padded.len() % n != 0 {
+                padded.push(0)?;
+            }
+        }
+        Ok((padded, mask.double()))
+    }
+
+    pub fn omac(&self, t: u8, string: &[u8]) -> Result<C::Block, AllocError> {
+        let n = C::block_len().max(1);
+        let mut whole = bytes(self.heap, C::Block::ending(t))?;
+        whole.extend_from_slice(string)?;
+        let (padded, mask) = self.padded(whole.as_slice())?;
+        let last = (padded.len() / n).saturating_sub(1);
+        let mut value = C::Block::zero();
+        for (i, block) in padded.as_slice().chunks(n).enumerate() {
+            let mut block = C::Block::from_bytes(block);
+            if i == last {
+                block = block.xor(mask);
+            }
+            value = self.cipher.encrypt(value.xor(block));
+        }
+        Ok(value)
+    }
+
+    pub fn ctr(&self, start: C::Block, string: &[u8]) -> Result<Vec<u8>, AllocError> {
+        let mut counter = start;
+        let mut covered = Vec::new(self.heap);
+        for block in string.chunks(C::block_len().max(1)) {
+            let stream = self.cipher.encrypt(counter);
+            for (place, byte) in block.iter().enumerate() {
+                covered.push(*byte ^ stream.byte(place))?;
+            }
+            counter = counter.next();
+        }
+        Ok(covered)
+    }
+
+    pub fn tag_block(
+        &self,
+        nonce: &[u8],
+        header: &[u8],
+        ciphertext: &[u8],
+    ) -> Result<C::Block, AllocError> {
+        Ok(sum(
+            self.omac(0, nonce)?,
+            self.omac(1, header)?,
+            self.omac(2, ciphertext)?,
+        ))
+    }
+
+    pub fn seal(
+        &self,
+        nonce: &[u8],
+        header: &[u8],
+        message: &[u8],
+    ) -> Result<Sealed<C::Block>, AllocError> {
+        let ciphertext = self.ctr(self.omac(0, nonce)?, message)?;
+        let tag_block = self.tag_block(nonce, header, ciphertext.as_slice())?;
+        Ok(Sealed {
+            ciphertext,
+            tag_block,
+        })
+    }
+
+    pub fn open(
+        &self,
+        nonce: &[u8],
+        header: &[u8],
+        ciphertext: &[u8],
+        tag: &[u8],
+    ) -> Result<Result<Vec<u8>, RecordFault>, AllocError> {
+        if !is_tag_len(C::block_len(), tag.len()) {
+            return Ok(Err(RecordFault::TagLength));
+        }
+        let block = self.tag_block(nonce, header, ciphertext)?;
+        for (place, byte) in tag.iter().enumerate() {
+            if *byte != block.byte(place) {
+                return Ok(Err(RecordFault::TagWrong));
+            }
+        }
+        Ok(Ok(self.ctr(self.omac(0, nonce)?, ciphertext)?))
+    }
+}
