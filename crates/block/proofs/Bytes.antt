@@ -1,24 +1,25 @@
--- A block by its bytes, for every kind: what reads back after a byte is replaced or a string is put in, that xor goes byte
--- by byte, and that blocks with the same bytes are the same.
-use mathlib.Core.Bool.{Bool, true, false, cond}
+-- A block by its bytes, for every kind: a byte of the number is what stands between two powers of 256, so a byte that is
+-- replaced reads back, xor goes byte by byte, and the bytes write the number.
 use mathlib.Core.List.{List, [], _∷_, map}
-use mathlib.Core.Logic.{_⊎_, inl, inr, ⊎-elim}
+use mathlib.Core.Logic.{_⊎_, ⊎-elim}
 use mathlib.Core.Path.{_≡_, refl, ap, ap₂, sym, _∙_}
 use Prim.Native.Nat.{ℕ, zero, suc, _+_, _-_, _*_, _/_, _%_, _^_, _<_, _≤_}
-use native.Mathlib.Nat.{mod-lt, add-zero, zero-add, zero-div}
+use native.Mathlib.Nat.{mod-lt, mod-eq-of-lt, add-zero, zero-add, zero-div, div-one}
 use native.Mathlib.Omega.{arith}
 use lib.Bits.{bitXor, xor-shr, xor-mod}
-use lib.Dec.{ltb}
-use lib.ListN.{length, getD}
+use lib.ListN.{length, getD, take}
 use lib.Pow.{pow-pos}
-use Rattle.std.proofs.shelf.Counted.{length-map-counting, getD-map-counting}
-use Rattle.std.proofs.shelf.Lists.{getD-past}
+use Rattle.std.proofs.shelf.Counted.{length-map-counting, getD-map-counting, map-counting-more}
+use Rattle.std.proofs.shelf.Digits.{number-push}
+use Rattle.std.proofs.shelf.Lists.{getD-past, getD-take, length-take-le, take-all, ext-getD}
 use Rattle.std.proofs.shelf.Tests.{cond-true, cond-false, lt-ltb, le-ltb, cases-lt, cases-order}
 use Rattle.std.specs.Iters.{counting}
+use Rattle.std.specs.shelf.Digits.{number}
 use Rattle.block.specs.Form.{Form}
 use Rattle.block.specs.Blocks.{shift, replaced, zeroBlock, xored, byteAt, withByte, bytesOf, filled, blockOf}
 use Rattle.block.specs.Lawful.{Lawful}
-use Rattle.block.proofs.Digits.{byte-mod, replaced-same, replaced-above, replaced-below, same-digits}
+use Rattle.block.specs.ByBytes.{IsString, ByBytes}
+use Rattle.block.proofs.Digits.{byte-mod, replaced-same, replaced-above, replaced-below, byte-more}
 use Rattle.block.proofs.Xor.{number-mod, number-xored, number-zero}
 
 module _ {B : Type 0} (form : Form B) (lawful : Lawful form) where
@@ -36,7 +37,9 @@ module _ {B : Type 0} (form : Form B) (lawful : Lawful form) where
       ∙ ap (λ y. y / 2 ^ shift (form .size) i % 256) (lawful .made x)
       ∙ byte-mod x (shift (form .size) i) (8 * form .size) within
 
-  put-at : (a : B) (p v : ℕ) → p < form .size → withByte form a p v ≡ form .block (replaced (form .number a) (shift (form .size) p) v)
+  put-at : (a : B) (p v : ℕ)
+      → p < form .size
+      → withByte form a p v ≡ form .block (replaced (form .number a) (shift (form .size) p) v)
   put-at a p v h = cond-true _ _ _ (lt-ltb p (form .size) h)
 
   pub byte-put-same : (a : B) (p v : ℕ) → p < form .size → byteAt form (withByte form a p v) p ≡ v % 256
@@ -45,7 +48,11 @@ module _ {B : Type 0} (form : Form B) (lawful : Lawful form) where
       ∙ byte-block _ p h
       ∙ replaced-same (form .number a) (shift (form .size) p) v
 
-  other : (a : B) (p v i : ℕ) → p < form .size → i < form .size → (p < i) ⊎ (i < p) → byteAt form (withByte form a p v) i ≡ byteAt form a i
+  other : (a : B) (p v i : ℕ)
+      → p < form .size
+      → i < form .size
+      → (p < i) ⊎ (i < p)
+      → byteAt form (withByte form a p v) i ≡ byteAt form a i
   other a p v i h l way =
       ap (λ b. byteAt form b i) (put-at a p v h)
       ∙ byte-block _ i l
@@ -90,21 +97,6 @@ module _ {B : Type 0} (form : Form B) (lawful : Lawful form) where
       past : form .size ≤ i → byteAt form (xored form a b) i ≡ bitXor (byteAt form a i) (byteAt form b i)
       past l = byte-past (xored form a b) i l ∙ sym (ap₂ bitXor (byte-past a i l) (byte-past b i l))
 
-  pub same-bytes : (a b : B) → ((i : ℕ) → i < form .size → byteAt form a i ≡ byteAt form b i) → a ≡ b
-  same-bytes a b same =
-      let digits : (k : ℕ) → k < form .size → form .number a / 2 ^ (8 * k) % 256 ≡ form .number b / 2 ^ (8 * k) % 256 =
-      λ k l.
-      let i : form .size - 1 - k < form .size = omega arith in
-      let back : form .size - 1 - (form .size - 1 - k) ≡ k = omega arith in
-      rw back at (sym (byte-at a (form .size - 1 - k) i) ∙ same (form .size - 1 - k) i ∙ byte-at b (form .size - 1 - k) i) in
-      sym (lawful .read a)
-      ∙ ap
-      (form .block)
-      (sym (number-mod form (lawful .read) (lawful .made) a)
-      ∙ same-digits (form .number a) (form .number b) (form .size) digits
-      ∙ number-mod form (lawful .read) (lawful .made) b)
-      ∙ lawful .read b
-
   pub length-bytes : (a : B) → length (bytesOf form a) ≡ form .size
   length-bytes a = length-map-counting (byteAt form a) 0 (form .size)
 
@@ -118,7 +110,9 @@ module _ {B : Type 0} (form : Form B) (lawful : Lawful form) where
   pub byte-zero : (i : ℕ) → byteAt form (zeroBlock form) i ≡ 0
   byte-zero i =
       ⊎-elim
-      (λ l. byte-at (zeroBlock form) i l ∙ ap (λ x. x / 2 ^ shift (form .size) i % 256) (number-zero form (lawful .read) (lawful .made)) ∙ ap (λ x. x % 256) (zero-div (2 ^ shift (form .size) i)))
+      (λ l. byte-at (zeroBlock form) i l
+      ∙ ap (λ x. x / 2 ^ shift (form .size) i % 256) (number-zero form (lawful .read) (lawful .made))
+      ∙ ap (λ x. x % 256) (zero-div (2 ^ shift (form .size) i)))
       (byte-past (zeroBlock form) i)
       (cases-lt i (form .size))
 
@@ -129,13 +123,18 @@ module _ {B : Type 0} (form : Form B) (lawful : Lawful form) where
       filled-before xs (withByte form a p x) (p + 1) i (omega arith)
       ∙ byte-put-other a p x i (λ e. omega arith)
 
-  filled-past : (xs : List ℕ) (a : B) (p i : ℕ) → p + length xs ≤ i → byteAt form (filled form a p xs) i ≡ byteAt form a i
+  filled-past : (xs : List ℕ) (a : B) (p i : ℕ)
+      → p + length xs ≤ i
+      → byteAt form (filled form a p xs) i ≡ byteAt form a i
   filled-past [] a p i l = refl
   filled-past (x ∷ xs) a p i l =
       filled-past xs (withByte form a p x) (p + 1) i (omega arith)
       ∙ byte-put-other a p x i (λ e. omega arith)
 
-  filled-at : (xs : List ℕ) (a : B) (p j : ℕ) → j < length xs → p + j < form .size → byteAt form (filled form a p xs) (p + j) ≡ getD xs j 0 % 256
+  filled-at : (xs : List ℕ) (a : B) (p j : ℕ)
+      → j < length xs
+      → p + j < form .size
+      → byteAt form (filled form a p xs) (p + j) ≡ getD xs j 0 % 256
   filled-at [] a p j l h = absurd (omega arith)
   filled-at (x ∷ xs) a p zero l h =
       rw add-zero
@@ -154,6 +153,71 @@ module _ {B : Type 0} (form : Form B) (lawful : Lawful form) where
       ∙ sym (ap (λ x. x % 256) (getD-past xs i 0 l)))
       (cases-lt i (length xs))
 
-  -- a string that begins with a block's bytes makes that block
-  pub block-of-bytes : (a : B) (xs : List ℕ) → ((i : ℕ) → i < form .size → getD xs i 0 % 256 ≡ byteAt form a i) → blockOf form xs ≡ a
-  block-of-bytes a xs h = same-bytes (blockOf form xs) a (λ i l. byte-block-of xs i l ∙ h i l)
+  -- the first k bytes, written as digits
+  digits : (a : B) (k : ℕ)
+      → k ≤ form .size
+      → number 256 (map (byteAt form a) (counting 0 k)) ≡ form .number a / 2 ^ (8 * (form .size - k)) % 2 ^ (8 * k)
+  digits a zero h = omega arith
+  digits a (suc k) h =
+      let x = form .number a in
+      let n = form .size in
+      let s = shift n k in
+      let here : 8 * (n - k) ≡ s + 8 = omega arith in
+      let next : 8 * (n - suc k) ≡ s = omega arith in
+      let more : suc k ≡ k + 1 = omega arith in
+      ap (λ j. number 256 (map (byteAt form a) (counting 0 j))) more
+      ∙ ap (number 256) (map-counting-more (byteAt form a) 0 k k (omega arith))
+      ∙ number-push 256 (map (byteAt form a) (counting 0 k)) (byteAt form a k)
+      ∙ ap₂ (λ d e. d * 256 + e) (digits a k (omega arith)) (byte-at a k (omega arith))
+      ∙ ap (λ t. x / 2 ^ t % 2 ^ (8 * k) * 256 + x / 2 ^ s % 256) here
+      ∙ byte-more x s k
+      ∙ ap₂ (λ t j. x / 2 ^ t % 2 ^ (8 * j)) (sym next) (sym more)
+
+  pub number-bytes : (a : B) → number 256 (bytesOf form a) ≡ form .number a
+  number-bytes a =
+      let whole : 8 * (form .size - form .size) ≡ 0 = omega arith in
+      digits a (form .size) (omega arith)
+      ∙ ap (λ t. form .number a / 2 ^ t % 2 ^ (8 * form .size)) whole
+      ∙ ap (λ x. x % 2 ^ (8 * form .size)) (div-one (form .number a))
+      ∙ number-mod form (lawful .read) (lawful .made) a
+
+  -- a block is given by its bytes
+  same-bytes : (a b : B) → bytesOf form a ≡ bytesOf form b → a ≡ b
+  same-bytes a b e =
+      sym (lawful .read a)
+      ∙ ap (form .block) (sym (number-bytes a) ∙ ap (number 256) e ∙ number-bytes b)
+      ∙ lawful .read b
+
+  -- the bytes of the block of a string, from its front
+  pub bytes-block-of : (X : List ℕ)
+      → IsString X
+      → form .size ≤ length X
+      → bytesOf form (blockOf form X) ≡ take (form .size) X
+  bytes-block-of X string long =
+      ext-getD 0 _ _
+      (length-bytes (blockOf form X) ∙ sym (length-take-le (form .size) X long))
+      (λ i l.
+      let h : i < form .size = omega (arith, length-bytes (blockOf form X)) in
+      getD-bytes (blockOf form X) i
+      ∙ byte-block-of X i h
+      ∙ mod-eq-of-lt (string i)
+      ∙ sym (getD-take (form .size) X i 0 h))
+
+  pub string-bytes : (a : B) → IsString (bytesOf form a)
+  string-bytes a i = rw (getD-bytes a i) (byte-lt a i)
+
+  made : (X : List ℕ) → IsString X → length X ≡ form .size → bytesOf form (blockOf form X) ≡ X
+  made X string whole = bytes-block-of X string (omega arith) ∙ take-all (form .size) X (omega arith)
+
+  pub by-bytes : ByBytes form
+  by-bytes =
+      record {
+        len = length-bytes;
+        string = string-bytes;
+        value = number-bytes;
+        made = made;
+        back = λ a. same-bytes _ a (made (bytesOf form a) (string-bytes a) (length-bytes a));
+        same = λ a place v h small. byte-put-same a place v h ∙ mod-eq-of-lt small;
+        other = byte-put-other;
+        xor = byte-xor;
+      }

@@ -1,6 +1,6 @@
 -- A byte of a number: what replacing one does to it and to the others, and that the number still fits.
 use mathlib.Core.Path.{_≡_, ap, sym, _∙_}
-use Prim.Native.Nat.{ℕ, zero, suc, _+_, _-_, _*_, _/_, _%_, _^_, _<_, _≤_}
+use Prim.Native.Nat.{ℕ, _+_, _-_, _*_, _/_, _%_, _^_, _<_, _≤_}
 use native.Mathlib.Nat.{mod-lt}
 use native.Mathlib.Omega.{arith}
 use lib.Arith.{digits-lt, digits-div, digits-mod}
@@ -16,9 +16,14 @@ parts lowest h =
     ∙ sym (pow-add 2 (120 - lowest + 8) lowest)
     ∙ ap (λ k. 2 ^ k) all
 
-above-lt : (x lowest v : ℕ) → lowest ≤ 120 → x < 2 ^ 128 → v < 256 → x / 2 ^ lowest / 256 * 256 + v < 2 ^ (120 - lowest) * 256
+above-lt : (x lowest v : ℕ)
+    → lowest ≤ 120
+    → x < 2 ^ 128
+    → v < 256
+    → x / 2 ^ lowest / 256 * 256 + v < 2 ^ (120 - lowest) * 256
 above-lt x lowest v h bound small =
-    let q : x / 2 ^ lowest < 2 ^ (120 - lowest) * 256 = div-below x (2 ^ lowest) _ (pow-pos lowest) (rw (parts lowest h) bound) in
+    let q : x / 2 ^ lowest < 2 ^ (120 - lowest) * 256 =
+    div-below x (2 ^ lowest) _ (pow-pos lowest) (rw (parts lowest h) bound) in
     digits-lt (div-below (x / 2 ^ lowest) 256 (2 ^ (120 - lowest)) (omega arith) q) small
 
 pub replaced-lt : (x lowest v unit : ℕ)
@@ -66,14 +71,10 @@ pub replaced-below : (x s v t : ℕ) → t + 8 ≤ s → replaced x s v / 2 ^ t 
 replaced-below x s v t h =
     byte-low (replaced x s v) x t s h (low (x / 2 ^ s / 256 * 256 + v % 256) s (mod-lt x (pow-pos s)))
 
--- numbers with the same bytes are the same
-pub same-digits : (x y n : ℕ)
-    → ((k : ℕ) → k < n → x / 2 ^ (8 * k) % 256 ≡ y / 2 ^ (8 * k) % 256)
-    → x % 2 ^ (8 * n) ≡ y % 2 ^ (8 * n)
-same-digits x y zero h = omega arith
-same-digits x y (suc n) h =
-    let split : (z : ℕ) → z % 2 ^ (8 * suc n) ≡ z / 2 ^ (8 * n) % 256 * 2 ^ (8 * n) + z % 2 ^ (8 * n) =
-    λ z. let all : 8 * suc n ≡ 8 + 8 * n = omega arith in ap (λ k. z % 2 ^ k) all ∙ mod-pow-add z 8 (8 * n) in
-    let top = h n (omega arith) in
-    let rest = same-digits x y n (λ k l. h k (omega arith)) in
-    split x ∙ ap (λ d. d * 2 ^ (8 * n) + x % 2 ^ (8 * n)) top ∙ ap (λ r. y / 2 ^ (8 * n) % 256 * 2 ^ (8 * n) + r) rest ∙ sym (split y)
+-- the bytes of a number from the lowest bit s on, written as digits: one more
+pub byte-more : (x s k : ℕ) → x / 2 ^ (s + 8) % 2 ^ (8 * k) * 256 + x / 2 ^ s % 256 ≡ x / 2 ^ s % 2 ^ (8 * (k + 1))
+byte-more x s k =
+    let all : 8 * (k + 1) ≡ 8 * k + 8 = omega arith in
+    ap (λ q. q % 2 ^ (8 * k) * 256 + x / 2 ^ s % 256) (sym (shr-shr x s 8))
+    ∙ sym (mod-pow-add (x / 2 ^ s) (8 * k) 8)
+    ∙ ap (λ j. x / 2 ^ s % 2 ^ j) (sym all)

@@ -1,20 +1,21 @@
 -- A block of either kind is given by its number: that the number fits is no more than a fact.
 use mathlib.Core.HLevel.{isProp→PathP}
-use mathlib.Core.Path.{_≡_}
-use Prim.Native.Nat.{_<_, _^_, _%_}
+use mathlib.Core.Path.{PathP, _≡_}
+use Prim.Native.Nat.{ℕ, _<_, _^_}
 use native.Mathlib.Bridge.{le-prop}
 use native.Mathlib.Nat.{mod-eq-of-lt}
 use Rattle.block.specs.Kinds.{form8, form16}
 use Rattle.block.specs.declared.block8.Block8.{Block8}
 use Rattle.block.specs.declared.block16.Block16.{Block16}
 
+fits-along : (bound : ℕ) {x y : ℕ} (p : x ≡ y) (f : x < bound) (g : y < bound) → PathP (λ i. p i < bound) f g
+fits-along bound p = isProp→PathP (λ i. p i < bound) (λ i. le-prop)
+
 pub same8 : (a b : Block8) → a .number ≡ b .number → a ≡ b
-same8 a b p =
-    λ i. record { number = p i; fits = isProp→PathP (λ j. p j < 2 ^ 64) (λ j. le-prop) (a .fits) (b .fits) i }
+same8 a b p = λ i. record { number = p i; fits = fits-along (2 ^ 64) p (a .fits) (b .fits) i }
 
 pub same16 : (a b : Block16) → a .number ≡ b .number → a ≡ b
-same16 a b p =
-    λ i. record { number = p i; fits = isProp→PathP (λ j. p j < 2 ^ 128) (λ j. le-prop) (a .fits) (b .fits) i }
+same16 a b p = λ i. record { number = p i; fits = fits-along (2 ^ 128) p (a .fits) (b .fits) i }
 
 pub read8 : (a : Block8) → form8 .block (form8 .number a) ≡ a
 read8 a = same8 _ a (mod-eq-of-lt (a .fits))

@@ -1,6 +1,6 @@
 -- A kind whose blocks are given by their numbers is lawful: the number of a xor is the xor of the numbers.
 use mathlib.Core.Logic.{_⊎_}
-use mathlib.Core.Path.{_≡_, refl, ap, sym, _∙_}
+use mathlib.Core.Path.{_≡_, ap, sym, _∙_}
 use Prim.Native.Nat.{ℕ, _*_, _%_, _^_, _<_}
 use native.Mathlib.Nat.{mod-lt, mod-eq-of-lt}
 use lib.Bits.{bitXor, xor-assoc, xor-comm, xor-zero-l, xor-self, xor-mod}

@@ -1,5 +1,5 @@
 -- The two kinds of block: of 8 bytes, and of 16. Assumes nothing.
-use Prim.Native.Nat.{ℕ, _%_, _^_}
+use Prim.Native.Nat.{_%_, _^_}
 use native.Mathlib.Nat.{mod-lt}
 use lib.Pow.{pow-pos}
 use Rattle.block.specs.Form.{Form}

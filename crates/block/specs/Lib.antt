@@ -1,4 +1,5 @@
 pub mod Form
 pub mod Blocks
 pub mod Lawful
+pub mod ByBytes
 pub mod Kinds

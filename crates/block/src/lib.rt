@@ -3,3 +3,4 @@ pub mod block;
 pub mod block16;
 pub mod block8;
 pub mod kinds;
+pub mod laws;

@@ -1,7 +1,7 @@
 -- CTR keeps a string's length, and twice under one S gives the string back: each byte is xored twice with the same byte,
 -- which the laws of xor undo.
 use mathlib.Core.List.{List, [], _∷_, _++_}
-use mathlib.Core.Logic.{_⊎_, inl, inr, ⊎-elim}
+use mathlib.Core.Logic.{⊎-elim}
 use mathlib.Core.Path.{_≡_, refl, ap, ap₂, sym, _∙_}
 use Prim.Native.Nat.{ℕ, zero, suc, min, _+_, _-_, _*_, _/_, _%_, _<_, _≤_}
 use native.Mathlib.Nat.{mod-lt, mod-eq-of-lt, zero-add, suc-add, zero-mul, suc-mul}
@@ -9,32 +9,18 @@ use native.Mathlib.Omega.{arith}
 use lib.Bits.{bitXor}
 use lib.ListN.{length, getD, take, drop}
 use Rattle.std.proofs.shelf.Bits.{div-add-mod'}
-use Rattle.std.proofs.shelf.Lists.{append-nil, length-take, length-drop, length-append, getD-take, getD-drop, getD-append-left, getD-append-right, getD-past, take-all, drop-at, ext-getD, nil-from-length, take-append-drop}
+use Rattle.std.proofs.shelf.Lists.{length-take, length-drop, length-append, getD-take, getD-append-left}
+use Rattle.std.proofs.shelf.Lists.{take-all, drop-at, ext-getD, nil-from-length}
 use Rattle.std.proofs.shelf.Tests.{cases-lt}
 use Rattle.block.specs.Form.{Form}
 use Rattle.block.specs.Lawful.{Lawful}
 use Rattle.block.specs.Blocks.{xored, byteAt, following, bytesOf, blockOf}
-use Rattle.block.proofs.Bytes.{byte-lt, byte-xor, length-bytes, getD-bytes, byte-block-of}
-use Rattle.mode.specs.Strings.{IsString, covered, ctr}
+use Rattle.block.proofs.Bytes.{byte-lt, byte-xor, length-bytes, getD-bytes, byte-block-of, string-bytes}
+use Rattle.block.specs.ByBytes.{IsString}
+use Rattle.mode.specs.Strings.{cover, covered, ctr}
 use Rattle.mode.specs.Laws.{Ctr}
+use Rattle.mode.proofs.StringParts.{string-drop, string-append, string-take}
 use Rattle.mode.proofs.Undone.{undone}
-
-string-drop : (n : ℕ) (X : List ℕ) → IsString X → IsString (drop n X)
-string-drop n X h i = rw (getD-drop n X i 0) (h (n + i))
-
-string-append : (X Y : List ℕ) → IsString X → IsString Y → IsString (X ++ Y)
-string-append X Y h k i =
-    ⊎-elim
-    (λ l. rw (getD-append-left X Y 0 i l) (h i))
-    (λ l. rw (getD-append-right X Y (length X) i 0 refl l) (k (i - length X)))
-    (cases-lt i (length X))
-
-string-take : (n : ℕ) (X : List ℕ) → IsString X → IsString (take n X)
-string-take n X h i =
-    ⊎-elim
-    (λ l. rw (getD-take n X i 0 l) (h i))
-    (λ l. rw (getD-past (take n X) i 0 (omega (arith, length-take n X))) (omega arith))
-    (cases-lt i n)
 
 -- as many bytes from the front, and as many more from what is left
 take-add : (m n : ℕ) (X : List ℕ) → take m X ++ take n (drop m X) ≡ take (m + n) X
@@ -50,22 +36,22 @@ module _ {B : Type 0} (form : Form B) (lawful : Lawful form) (F : B → B) where
   pub some : 0 < form .size
   some = ⊎-elim (λ e. omega arith) (λ e. omega arith) (lawful .sized)
 
-  -- one block of CTR
-  cover : B → List ℕ → List ℕ
-  cover K X = take (length X) (bytesOf form (xored form (blockOf form X) K))
-
-  length-cover : (K : B) (X : List ℕ) → length (cover K X) ≡ min (length X) (form .size)
+  length-cover : (K : B) (X : List ℕ) → length (cover form K X) ≡ min (length X) (form .size)
   unfolding cover
   length-cover K X =
       length-take (length X) _ ∙ ap (min (length X)) (length-bytes form lawful _)
 
   -- the bytes of a block are those of the xor
-  getD-cover : (K : B) (X : List ℕ) (i : ℕ) → i < length X → getD (cover K X) i 0 ≡ byteAt form (xored form (blockOf form X) K) i
+  getD-cover : (K : B) (X : List ℕ) (i : ℕ)
+      → i < length X
+      → getD (cover form K X) i 0 ≡ byteAt form (xored form (blockOf form X) K) i
   unfolding cover
   getD-cover K X i l = getD-take (length X) _ i 0 l ∙ getD-bytes form lawful _ i
 
   -- a byte of a xor goes by that byte alone
-  local : (a b k : B) (i : ℕ) → byteAt form a i ≡ byteAt form b i → byteAt form (xored form a k) i ≡ byteAt form (xored form b k) i
+  local : (a b k : B) (i : ℕ)
+      → byteAt form a i ≡ byteAt form b i
+      → byteAt form (xored form a k) i ≡ byteAt form (xored form b k) i
   local a b k i e =
       byte-xor form lawful a k i
       ∙ ap (λ x. bitXor x (byteAt form k i)) e
@@ -76,12 +62,12 @@ module _ {B : Type 0} (form : Form B) (lawful : Lawful form) (F : B → B) where
       → IsString X
       → i < form .size
       → i < length X
-      → byteAt form (xored form (blockOf form (cover K X ++ R)) K) i ≡ getD X i 0
+      → byteAt form (xored form (blockOf form (cover form K X ++ R)) K) i ≡ getD X i 0
   uncover K X R i h l m =
-      let inside : i < length (cover K X) = rw (length-cover K X) (omega arith) in
-      let same : byteAt form (blockOf form (cover K X ++ R)) i ≡ byteAt form (xored form (blockOf form X) K) i =
-      byte-block-of form lawful (cover K X ++ R) i l
-      ∙ ap (λ x. x % 256) (getD-append-left (cover K X) R 0 i inside ∙ getD-cover K X i m)
+      let inside : i < length (cover form K X) = rw (length-cover K X) (omega arith) in
+      let same : byteAt form (blockOf form (cover form K X ++ R)) i ≡ byteAt form (xored form (blockOf form X) K) i =
+      byte-block-of form lawful (cover form K X ++ R) i l
+      ∙ ap (λ x. x % 256) (getD-append-left (cover form K X) R 0 i inside ∙ getD-cover K X i m)
       ∙ mod-eq-of-lt (byte-lt form lawful _ i) in
       local _ (xored form (blockOf form X) K) K i same
       ∙ ap (λ b. byteAt form b i) (undone form lawful (blockOf form X) K)
@@ -92,35 +78,37 @@ module _ {B : Type 0} (form : Form B) (lawful : Lawful form) (F : B → B) where
   unfolding covered cover
   length-covered zero S X = rw zero-mul (omega arith)
   length-covered (suc q) S X =
-      length-append (cover (F S) X) _
-      ∙ ap₂ _+_ (length-cover (F S) X) (length-covered q (following form S) (drop (form .size) X) ∙ ap (min (q * form .size)) (length-drop (form .size) X))
+      let n = form .size in
+      let rest = length-covered q (following form S) (drop n X) ∙ ap (min (q * n)) (length-drop n X) in
+      length-append (cover form (F S) X) _
+      ∙ ap₂ _+_ (length-cover (F S) X) rest
       ∙ rw suc-mul (omega arith)
 
   -- a block and what was covered after it: each comes back by itself
   module _ (K : B) (X R : List ℕ) (q : ℕ) (rest : length R ≡ min (q * form .size) (length X - form .size)) where
-    whole : length (cover K X ++ R) ≡ min (length X) (form .size) + min (q * form .size) (length X - form .size)
-    whole = length-append (cover K X) R ∙ ap₂ _+_ (length-cover K X) rest
+    whole : length (cover form K X ++ R) ≡ min (length X) (form .size) + min (q * form .size) (length X - form .size)
+    whole = length-append (cover form K X) R ∙ ap₂ _+_ (length-cover K X) rest
 
-    front : IsString X → cover K (cover K X ++ R) ≡ take (form .size) X
+    front : IsString X → cover form K (cover form K X ++ R) ≡ take (form .size) X
     front h =
-        let long : length (cover K (cover K X ++ R)) ≡ min (form .size) (length X) =
-        length-cover K (cover K X ++ R) ∙ ap (λ y. min y (form .size)) whole ∙ omega arith in
+        let long : length (cover form K (cover form K X ++ R)) ≡ min (form .size) (length X) =
+        length-cover K (cover form K X ++ R) ∙ ap (λ y. min y (form .size)) whole ∙ omega arith in
         ext-getD 0 _ _
         (long ∙ sym (length-take (form .size) X))
         (λ i l.
         let n : i < form .size = omega arith in
         let m : i < length X = omega arith in
-        getD-cover K (cover K X ++ R) i (omega (arith, whole))
+        getD-cover K (cover form K X ++ R) i (omega (arith, whole))
         ∙ uncover K X R i h n m
         ∙ sym (getD-take (form .size) X i 0 n))
 
-    back : drop (form .size) (cover K X ++ R) ≡ R
+    back : drop (form .size) (cover form K X ++ R) ≡ R
     back =
         ⊎-elim
         (λ short.
-        nil-from-length _ (length-drop (form .size) (cover K X ++ R) ∙ omega (arith, whole))
+        nil-from-length _ (length-drop (form .size) (cover form K X ++ R) ∙ omega (arith, whole))
         ∙ sym (nil-from-length R (rest ∙ omega arith)))
-        (λ long. drop-at (cover K X) R (form .size) (length-cover K X ∙ omega arith))
+        (λ long. drop-at (cover form K X) R (form .size) (length-cover K X ∙ omega arith))
         (cases-lt (length X) (form .size))
 
   covered-twice : (q : ℕ) (S : B) (X : List ℕ)
@@ -142,16 +130,22 @@ module _ {B : Type 0} (form : Form B) (lawful : Lawful form) (F : B → B) where
       ∙ ap (λ k. take k X) times
 
   string-covered : (q : ℕ) (S : B) (X : List ℕ) → IsString (covered form F q S X)
-  unfolding covered
+  unfolding covered cover
   string-covered zero S X = λ i. omega arith
   string-covered (suc q) S X =
       string-append _ _
-      (string-take (length X) _ (λ i. rw (getD-bytes form lawful) (byte-lt form lawful _ i)))
+      (string-take (length X) _ (string-bytes form lawful _))
       (string-covered q (following form S) (drop (form .size) X))
 
   pub ctr-laws : (S : B) (X : List ℕ) → Ctr form F S X
   unfolding ctr
-  ctr-laws S X = record { len = len X; string = string-covered _ S X; twice = twice X; one = λ Y h k e. sym (twice X h) ∙ ap (ctr form F S) e ∙ twice Y k }
+  ctr-laws S X =
+      record {
+        len = len X;
+        string = string-covered _ S X;
+        twice = twice X;
+        one = λ Y h k e. sym (twice X h) ∙ ap (ctr form F S) e ∙ twice Y k;
+      }
     where
       len : (X : List ℕ) → length (ctr form F S X) ≡ length X
       len X = length-covered _ S X ∙ omega (arith, enough (length X) (form .size) some)

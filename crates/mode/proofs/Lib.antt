@@ -1,3 +1,4 @@
+pub mod StringParts
 pub mod Undone
 pub mod Ctr
 pub mod Opening

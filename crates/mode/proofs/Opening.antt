@@ -17,7 +17,8 @@ use Rattle.wire.specs.declared.fault.RecordFault.{RecordFault}
 use Rattle.wire.specs.declared.fault.RecordFault.the-variants.{TagLength, TagWrong}
 use Rattle.block.specs.Form.{Form}
 use Rattle.block.specs.Lawful.{Lawful}
-use Rattle.mode.specs.Strings.{IsString, ctr, nonceBlock, ciphertext, tag, opening}
+use Rattle.block.specs.ByBytes.{IsString}
+use Rattle.mode.specs.Strings.{ctr, nonceBlock, ciphertext, tag, opening}
 use Rattle.mode.specs.Laws.{Ctr, Gives, Opens}
 use Rattle.mode.proofs.Ctr.{ctr-laws}
 

@@ -10,7 +10,8 @@ use Rattle.wire.specs.Limits.{isTagLen}
 use Rattle.wire.specs.declared.fault.RecordFault.{RecordFault}
 use Rattle.block.specs.Form.{Form}
 use Rattle.block.specs.Blocks.{xored}
-use Rattle.mode.specs.Strings.{IsString, ctr, ciphertext, tag, opening}
+use Rattle.block.specs.ByBytes.{IsString}
+use Rattle.mode.specs.Strings.{ctr, ciphertext, tag, opening}
 
 module _ {B : Type 0} (form : Form B) where
   -- the sum of three blocks is the same in every order

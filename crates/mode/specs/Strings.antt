@@ -1,9 +1,9 @@
 -- The strings of EAX, over the meaning F of a cipher and its kind of block. Assumes nothing.
 use mathlib.Core.Bool.{Bool, cond, _&&_}
 use mathlib.Core.List.{List, [], _∷_, _++_}
-use Prim.Native.Nat.{ℕ, zero, suc, _+_, _-_, _/_, _%_, _<_}
+use Prim.Native.Nat.{ℕ, zero, suc, _+_, _-_, _/_, _%_}
 use lib.Dec.{eqb, ltb}
-use lib.ListN.{length, getD, take, drop, replicate}
+use lib.ListN.{length, take, drop, replicate}
 use Rattle.std.specs.declared.result.Result.{Result}
 use Rattle.std.specs.declared.result.Result.the-variants.{Ok, Err}
 use Rattle.std.specs.shelf.Text.{sameBytes}
@@ -13,85 +13,84 @@ use Rattle.wire.specs.declared.fault.RecordFault.the-variants.{TagLength, TagWr
 use Rattle.block.specs.Form.{Form}
 use Rattle.block.specs.Blocks.{zeroBlock, endBlock, xored, doubled, following, bytesOf, blockOf}
 
--- a string is a list of bytes
-abbrev pub IsString : List ℕ → Type 0
-IsString X = (i : ℕ) → getD X i 0 < 256
-
-module _ {B : Type 0} (form : Form B) (F : B → B) where
-  -- L, 2L and 4L
-  unfoldable pub L : B
-  L = F (endBlock form 0)
-
-  unfoldable pub twoL : B
-  twoL = doubled form L
-
-  unfoldable pub fourL : B
-  fourL = doubled form twoL
-
+module _ {B : Type 0} (form : Form B) where
   -- a block xored into the last n bytes of a string
   unfoldable pub intoLast : B → List ℕ → List ℕ
   intoLast b X =
       let front : ℕ = length X - form .size in
       take front X ++ bytesOf form (xored form (blockOf form (drop front X)) b)
 
+  -- a block xored into the first n bytes of a string, or as many as it has
+  unfoldable pub cover : B → List ℕ → List ℕ
+  cover b X = take (length X) (bytesOf form (xored form (blockOf form X) b))
+
   -- not empty, and whole blocks
   unfoldable pub isFull : List ℕ → Bool
   isFull X = ltb 0 (length X) && eqb (length X % form .size) 0
 
-  -- 80 and then 00 up to the next multiple of n
+  -- 80, and then 00 up to the next multiple of n
   unfoldable pub filledUp : List ℕ → List ℕ
   filledUp X = X ++ (0x80 ∷ replicate (form .size - 1 - length X % form .size) 0)
 
-  unfoldable pub pad : List ℕ → List ℕ
-  pad X = cond (isFull X) (intoLast twoL X) (intoLast fourL (filledUp X))
+  module _ (F : B → B) where
+    unfoldable pub L : B
+    L = F (endBlock form 0)
 
-  -- each block of a string in turn is xored in, and F applied
-  unfoldable pub chain : (blocks : ℕ) → B → List ℕ → B
-  chain zero v X = v
-  chain (suc blocks) v X = chain blocks (F (xored form v (blockOf form X))) (drop (form .size) X)
+    unfoldable pub twoL : B
+    twoL = doubled form L
 
-  -- CMAC: the chain of the padded string, from the zero block
-  unfoldable pub cmac : List ℕ → B
-  cmac X = chain (length (pad X) / form .size) (zeroBlock form) (pad X)
+    unfoldable pub fourL : B
+    fourL = doubled form twoL
 
-  -- OMAC under t: CMAC of [t] followed by the string
-  unfoldable pub omac : ℕ → List ℕ → B
-  omac t X = cmac (bytesOf form (endBlock form t) ++ X)
+    unfoldable pub pad : List ℕ → List ℕ
+    pad X = cond (isFull X) (intoLast twoL X) (intoLast fourL (filledUp X))
 
-  -- the blocks of a string, the last of them perhaps short, xored with F(S), F(S + 1), F(S + 2) and so on
-  unfoldable pub covered : (blocks : ℕ) → B → List ℕ → List ℕ
-  covered zero S X = []
-  covered (suc blocks) S X =
-      take (length X) (bytesOf form (xored form (blockOf form X) (F S)))
-      ++ covered blocks (following form S) (drop (form .size) X)
+    -- each block of a string in turn is xored in, and F applied
+    unfoldable pub chain : (blocks : ℕ) → B → List ℕ → B
+    chain zero v X = v
+    chain (suc blocks) v X = chain blocks (F (xored form v (blockOf form X))) (drop (form .size) X)
 
-  unfoldable pub ctr : B → List ℕ → List ℕ
-  ctr S X = covered ((length X + form .size - 1) / form .size) S X
+    -- CMAC: the chain of the padded string, from the zero block
+    unfoldable pub cmac : List ℕ → B
+    cmac X = chain (length (pad X) / form .size) (zeroBlock form) (pad X)
 
-  -- nonce N, header H, message M, ciphertext C, tag T
-  unfoldable pub nonceBlock : List ℕ → B
-  nonceBlock N = omac 0 N
+    -- OMAC under t: CMAC of [t] followed by the string
+    unfoldable pub omac : ℕ → List ℕ → B
+    omac t X = cmac (bytesOf form (endBlock form t) ++ X)
 
-  unfoldable pub headerBlock : List ℕ → B
-  headerBlock H = omac 1 H
+    -- F(S), F(S + 1), F(S + 2) and so on, each xored into a block of the string
+    unfoldable pub covered : (blocks : ℕ) → B → List ℕ → List ℕ
+    covered zero S X = []
+    covered (suc blocks) S X = cover (F S) X ++ covered blocks (following form S) (drop (form .size) X)
 
-  unfoldable pub cipherBlock : List ℕ → B
-  cipherBlock C = omac 2 C
+    -- CTR from S: the last block may be short
+    unfoldable pub ctr : B → List ℕ → List ℕ
+    ctr S X = covered ((length X + form .size - 1) / form .size) S X
 
-  unfoldable pub ciphertext : (N M : List ℕ) → List ℕ
-  ciphertext N M = ctr (nonceBlock N) M
+    -- of a nonce N, a header H, a message M, a ciphertext C and a tag T
+    unfoldable pub nonceBlock : (N : List ℕ) → B
+    nonceBlock N = omac 0 N
 
-  unfoldable pub tagBlock : (N H C : List ℕ) → B
-  tagBlock N H C = xored form (xored form (nonceBlock N) (headerBlock H)) (cipherBlock C)
+    unfoldable pub headerBlock : (H : List ℕ) → B
+    headerBlock H = omac 1 H
 
-  -- the tag of u bytes
-  unfoldable pub tag : (u : ℕ) (N H C : List ℕ) → List ℕ
-  tag u N H C = take u (bytesOf form (tagBlock N H C))
+    unfoldable pub cipherBlock : (C : List ℕ) → B
+    cipherBlock C = omac 2 C
 
-  -- what opening answers
-  unfoldable pub opening : (N H C T : List ℕ) → Result (List ℕ) RecordFault
-  opening N H C T =
-      cond
-      (isTagLen (form .size) (length T))
-      (cond (sameBytes T (tag (length T) N H C)) (Ok (ctr (nonceBlock N) C)) (Err TagWrong))
-      (Err TagLength)
+    unfoldable pub ciphertext : (N M : List ℕ) → List ℕ
+    ciphertext N M = ctr (nonceBlock N) M
+
+    unfoldable pub tagBlock : (N H C : List ℕ) → B
+    tagBlock N H C = xored form (xored form (nonceBlock N) (headerBlock H)) (cipherBlock C)
+
+    -- the tag of u bytes
+    unfoldable pub tag : (u : ℕ) (N H C : List ℕ) → List ℕ
+    tag u N H C = take u (bytesOf form (tagBlock N H C))
+
+    -- what opening answers: 5 for the tag's length, else 6 for another tag than that of C, else the message
+    unfoldable pub opening : (N H C T : List ℕ) → Result (List ℕ) RecordFault
+    opening N H C T =
+        cond
+        (isTagLen (form .size) (length T))
+        (cond (sameBytes T (tag (length T) N H C)) (Ok (ctr (nonceBlock N) C)) (Err TagWrong))
+        (Err TagLength)

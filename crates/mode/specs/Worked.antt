@@ -1,7 +1,6 @@
 -- What a worked value says, under the bench cipher with the key 00 00 00 00 00 00 00 01 where F is used. Assumes nothing.
 use mathlib.Core.List.{List, [], _∷_}
 use mathlib.Core.Path.{_≡_}
-use Prim.Native.Nat.{ℕ}
 use Rattle.std.specs.declared.result.Result.the-variants.{Ok, Err}
 use Rattle.wire.specs.Faults.{recordNumber}
 use Rattle.wire.specs.declared.fault.RecordFault.{RecordFault}

@@ -6,10 +6,13 @@ use Rattle.block.proofs.Digits.{replaced-lt}
 use Rattle.block.proofs.block.with_byte.Needs as need
 
 fits : (c : need.After-from)
-    → (c .args .number / c .unit-unit .result / 256 * 256 + c .from .result) * c .unit-unit .result + c .args .number % c .unit-unit .result < 2 ^ 128
+    → (c .args .number / c .unit-unit .result / 256 * 256 + c .from .result) * c .unit-unit .result
+    + c .args .number % c .unit-unit .result
+    < 2 ^ 128
 fits c =
     let small : c .from .result < 256 = omega (arith, fits-lt-pow (c .fits .byte)) in
-    replaced-lt (c .args .number) (c .args .shift) (c .from .result) (c .unit-unit .result) (c .pre) (fits-lt-pow (c .fits .number)) small (c .unit-unit .ensures .value)
+    let bound = fits-lt-pow (c .fits .number) in
+    replaced-lt (c .args .number) (c .args .shift) _ _ (c .pre) bound small (c .unit-unit .ensures .value)
 
 pub mul-result-2 : need.mul-result-2
 mul-result-2 c = fits-of-lt (omega (arith, fits c))

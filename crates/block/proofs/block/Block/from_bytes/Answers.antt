@@ -1,8 +1,6 @@
 -- Each turn puts one byte in; a byte reads back as it was put.
 use mathlib.Core.Path.{_≡_, ap, sym, _∙_}
-use Prim.Native.Nat.{_+_}
 use native.Mathlib.Nat.{mod-eq-of-lt}
-use lib.ListN.{drop}
 use mir.Facts.{fits-lt-pow}
 use Rattle.std.proofs.shelf.Lists.{at-drop-more, at-drop-all}
 use Rattle.block.specs.Blocks.{byteAt, filled, blockOf}
@@ -14,9 +12,8 @@ loop-place-again g c =
     let form = g .Self·Block .form in
     let xs = c .args .bytes .now in
     let i = c .loop-place .place in
-    ap (λ b. filled form b (i + 1) (drop (i + 1) xs)) (c .put-block .ensures)
-    ∙ sym (at-drop-more (filled form (c .loop-place .block) i) xs i 0 (c .loop-place-test .taken))
-    ∙ c .loop-place .inv
+    let step = at-drop-more (filled form (c .loop-place .block) i) xs i 0 (c .loop-place-test .taken) in
+    rw (c .put-block .ensures) (sym step ∙ c .loop-place .inv)
 
 pub returns : need.returns
 returns g c =

@@ -6,4 +6,5 @@ use Rattle.block.proofs.block.Block.from_bytes.Given as given
 -- the bytes that are left make the block of all
 abbrev pub Inv-loop-place : given.InvT-loop-place
 Inv-loop-place g l =
-    filled (g .Self·Block .form) (l .block) (l .place) (drop (l .place) (l .bytes)) ≡ blockOf (g .Self·Block .form) (l .bytes)
+    let form = g .Self·Block .form in
+    filled form (l .block) (l .place) (drop (l .place) (l .bytes)) ≡ blockOf form (l .bytes)
