@@ -10,6 +10,6 @@ pub fn ctr_undoes_itself<B: Block>()
 {}
 
 // Opening hands out the message that gives the ciphertext and the tag, if there is one.
-pub fn opening_is_unique<B: Block>()
+pub fn opening_is_exact<B: Block>()
     ensures { λ _. ⌜ ((F : B → B) (N H C T : List ℕ) → Opens form F N H C T) ⌝ }
 {}
