@@ -21,6 +21,8 @@ pub trait Cipher {
 
     law named: { SealedKind kind size };
 
+    law wide: { size ≡ Block·Block .form .size };
+
     // `KIND`, for code that knows only the trait.
     fn kind_number() -> u8
         ensures { λ r. ⌜ r ≡ kind ⌝ };

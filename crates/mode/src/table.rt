@@ -1,11 +1,11 @@
-// The table of worked values: each is proved of the definitions here, and run by a test.
+// The table of worked values: each is proved of the definitions, and run by a test.
 ghost use Rattle.mode.specs.Worked.{AllHold};
 use crate::worked::Worked;
 
 // The header of two of the values.
 const HEADER: &[u8] = &[1, 2, 3, 4, 5, 6, 7, 8];
 
-pub fn table() -> [Worked; 12]
+pub fn table() -> [Worked; 17]
     ensures { λ r. ⌜ AllHold r ⌝ }
 {
     [
@@ -75,6 +75,38 @@ pub fn table() -> [Worked; 12]
             ciphertext: &[0xFF],
             tag: &[0x55, 0, 0, 1],
             answer: Err(6),
+        },
+        Worked::Opened {
+            nonce: &[0xAA],
+            header: &[],
+            ciphertext: &[0xFF],
+            tag: &[0x55, 0, 0, 0, 0, 0, 0, 0],
+            answer: Ok(&[0x55]),
+        },
+        Worked::Opened {
+            nonce: &[0xAA],
+            header: &[],
+            ciphertext: &[0xFF],
+            tag: &[0x55, 0, 0],
+            answer: Err(5),
+        },
+        Worked::Opened {
+            nonce: &[0xAA],
+            header: &[],
+            ciphertext: &[0xFF],
+            tag: &[0x55, 0, 0, 0, 0, 0, 0, 0, 0],
+            answer: Err(5),
+        },
+        Worked::Cmac {
+            string: &[],
+            answer: &[0x80, 0, 0, 0, 0, 0, 0, 0x05],
+        },
+        Worked::Sealed16 {
+            nonce: b"\xFF\xFF\xFF\xFF\xFF\xFF\xFF\xFF\xFF\xFF\xFF\xFF\xFF\xFF\xFF\xFE",
+            header: &[1, 2, 3, 4, 5, 6, 7, 8, 9, 10, 11, 12, 13, 14, 15, 16, 17],
+            message: &[0; 17],
+            ciphertext: b"\xFF\xFF\xFF\xFF\xFF\xFF\xFF\xFF\xFF\xFF\xFF\xFF\xFF\xFF\xFF\xFF\x00",
+            tag_block: &[16, 2, 3, 4, 5, 6, 7, 8, 9, 10, 11, 12, 13, 14, 15, 0x1C],
         },
     ]
 }

@@ -1,9 +1,13 @@
-// Tests of blocks, of the bench cipher and its loading, and of the table of worked values.
+// Tests of blocks, of loading a key, and of EAX over whole strings.
 #[cfg(test)]
 mod blocks;
 #[cfg(test)]
 mod keys;
 #[cfg(test)]
+mod records;
+#[cfg(test)]
 mod reference;
 #[cfg(test)]
 mod values;
+#[cfg(test)]
+mod wide;

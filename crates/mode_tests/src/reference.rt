@@ -46,11 +46,9 @@ impl<C: Cipher> Eax<'_, C> {
         Ok((padded, mask.double()))
     }
 
-    pub fn omac(&self, t: u8, string: &[u8]) -> Result<C::Block, AllocError> {
+    pub fn cmac(&self, string: &[u8]) -> Result<C::Block, AllocError> {
         let n = C::block_len().max(1);
-        let mut whole = bytes(self.heap, C::Block::ending(t))?;
-        whole.extend_from_slice(string)?;
-        let (padded, mask) = self.padded(whole.as_slice())?;
+        let (padded, mask) = self.padded(string)?;
         let last = (padded.len() / n).saturating_sub(1);
         let mut value = C::Block::zero();
         for (i, block) in padded.as_slice().chunks(n).enumerate() {
@@ -61,6 +59,12 @@ impl<C: Cipher> Eax<'_, C> {
             value = self.cipher.encrypt(value.xor(block));
         }
         Ok(value)
+    }
+
+    pub fn omac(&self, t: u8, string: &[u8]) -> Result<C::Block, AllocError> {
+        let mut tweaked = bytes(self.heap, C::Block::ending(t))?;
+        tweaked.extend_from_slice(string)?;
+        self.cmac(tweaked.as_slice())
     }
 
     pub fn ctr(&self, start: C::Block, string: &[u8]) -> Result<Vec<u8>, AllocError> {

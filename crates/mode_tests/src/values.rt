@@ -1,6 +1,10 @@
 // The table of worked values, run.
 use crate::reference::Eax;
+use crate::reference::Sealed;
 use crate::reference::bytes;
+use crate::wide::Wide;
+use crate::wide::WideCipher;
+use crate::wide::WideKeyed;
 use block::block::Block;
 use block::block8::Block8;
 use block::block16::Block16;
@@ -35,7 +39,17 @@ fn check_opened(
     }
 }
 
-fn check_row(eax: &Eax<'_, Bench>, row: Worked) -> Result<(), Fail> {
+fn check_sealed<B: Block>(
+    heap: Global,
+    sealed: Sealed<B>,
+    ciphertext: &[u8],
+    tag_block: &[u8],
+) -> Result<(), Fail> {
+    check_eq(sealed.ciphertext.as_slice(), ciphertext)?;
+    check_bytes(heap, sealed.tag_block, tag_block)
+}
+
+fn check_row(eax: &Eax<'_, Bench>, eax16: &Eax<'_, Wide>, row: Worked) -> Result<(), Fail> {
     let heap = eax.heap;
     match row {
         Worked::Doubled8 { block, answer } => check_bytes(
@@ -53,6 +67,7 @@ fn check_row(eax: &Eax<'_, Bench>, row: Worked) -> Result<(), Fail> {
             Block8::from_bytes(block).next(),
             answer,
         ),
+        Worked::Cmac { string, answer } => check_bytes(heap, eax.cmac(string)?, answer),
         Worked::Omac { t, string, answer } => check_bytes(heap, eax.omac(t, string)?, answer),
         Worked::Sealed {
             nonce,
@@ -60,11 +75,24 @@ fn check_row(eax: &Eax<'_, Bench>, row: Worked) -> Result<(), Fail> {
             message,
             ciphertext,
             tag_block,
-        } => {
-            let sealed = eax.seal(nonce, header, message)?;
-            check_eq(sealed.ciphertext.as_slice(), ciphertext)?;
-            check_bytes(heap, sealed.tag_block, tag_block)
-        }
+        } => check_sealed(
+            heap,
+            eax.seal(nonce, header, message)?,
+            ciphertext,
+            tag_block,
+        ),
+        Worked::Sealed16 {
+            nonce,
+            header,
+            message,
+            ciphertext,
+            tag_block,
+        } => check_sealed(
+            heap,
+            eax16.seal(nonce, header, message)?,
+            ciphertext,
+            tag_block,
+        ),
         Worked::Opened {
             nonce,
             header,
@@ -84,8 +112,13 @@ fn worked_values(rt: LibcRuntime) -> Result<(), Fail> {
         cipher: &bench,
         heap,
     };
+    // With a key of all 00, this cipher adds one.
+    let eax16 = Eax {
+        cipher: &Wide::fresh(),
+        heap,
+    };
     for row in table() {
-        check_row(&eax, row)?;
+        check_row(&eax, &eax16, row)?;
     }
     Ok(())
 }

@@ -1,10 +1,32 @@
 -- Each row is computed from the definitions.
 use mathlib.Core.Path.{refl}
-use Rattle.wire.specs.declared.fault.RecordFault.the-variants.{TagWrong}
-use Rattle.mode.specs.Strings.{L, twoL, fourL, intoLast, isFull, filledUp, pad, chain, cmac, omac, cover, covered, ctr, nonceBlock, headerBlock, cipherBlock, ciphertext, tagBlock, tag, opening}
+use Rattle.wire.specs.declared.fault.RecordFault.the-variants.{TagLength, TagWrong}
+use Rattle.mode.specs.Strings.{intoLast, cover, isFull, filledUp, L, twoL, fourL, pad, chain, cmac, omac, covered, ctr}
+use Rattle.mode.specs.Strings.{nonceBlock, headerBlock, cipherBlock, ciphertext, tagBlock, tag, opening}
 use Rattle.mode.proofs.table.table.Needs as need
 
+infixr 4 _&_
+_&_ : {A B : Type 0} → A → B → A × B
+row & rows = (row, rows)
+
 pub returns : need.returns
-unfolding L twoL fourL intoLast isFull filledUp pad chain cmac omac cover covered ctr nonceBlock headerBlock cipherBlock ciphertext tagBlock tag opening
+unfolding intoLast cover isFull filledUp L twoL fourL pad chain cmac omac covered ctr nonceBlock headerBlock cipherBlock ciphertext tagBlock tag opening
 returns c =
-    (refl, (refl, (refl, (refl, (refl, (refl, (refl, ((refl, refl), ((refl, refl), ((refl, refl), (refl, ((TagWrong, refl, refl), tt))))))))))))
+    (refl, refl)
+    & (refl, refl)
+    & (refl, refl)
+    & refl
+    & refl
+    & refl
+    & refl
+    & (refl, refl)
+    & (refl, refl)
+    & (refl, refl)
+    & refl
+    & (TagWrong, refl, refl)
+    & refl
+    & (TagLength, refl, refl)
+    & (TagLength, refl, refl)
+    & refl
+    & (refl, refl)
+    & tt
