@@ -16,7 +16,7 @@ use Rattle.std.proofs.shelf.Tests.{cond-true, cond-false, lt-ltb, le-ltb, cases
 use Rattle.std.specs.Iters.{counting}
 use Rattle.std.specs.shelf.Digits.{number}
 use Rattle.block.specs.Form.{Form}
-use Rattle.block.specs.Blocks.{shift, replaced, zeroBlock, xored, byteAt, withByte, bytesOf, filled, blockOf}
+use Rattle.block.specs.Blocks.{shift, replaced, zeroBlock, xored, byteAt, withByte, bytesOf, putFrom, blockOf}
 use Rattle.block.specs.Lawful.{Lawful}
 use Rattle.block.specs.ByBytes.{IsString, ByBytes}
 use Rattle.block.proofs.Digits.{byte-mod, replaced-same, replaced-above, replaced-below, byte-more}
@@ -26,7 +26,7 @@ module _ {B : Type 0} (form : Form B) (lawful : Lawful form) where
   byte-at : (a : B) (i : ℕ) → i < form .size → byteAt form a i ≡ form .number a / 2 ^ shift (form .size) i % 256
   byte-at a i h = cond-true _ _ _ (lt-ltb i (form .size) h)
 
-  pub byte-past : (a : B) (i : ℕ) → form .size ≤ i → byteAt form a i ≡ 0
+  byte-past : (a : B) (i : ℕ) → form .size ≤ i → byteAt form a i ≡ 0
   byte-past a i h = cond-false _ _ _ (le-ltb i (form .size) h)
 
   -- a byte of the block of a number is that of the number
@@ -42,7 +42,7 @@ module _ {B : Type 0} (form : Form B) (lawful : Lawful form) where
       → withByte form a p v ≡ form .block (replaced (form .number a) (shift (form .size) p) v)
   put-at a p v h = cond-true _ _ _ (lt-ltb p (form .size) h)
 
-  pub byte-put-same : (a : B) (p v : ℕ) → p < form .size → byteAt form (withByte form a p v) p ≡ v % 256
+  byte-put-same : (a : B) (p v : ℕ) → p < form .size → byteAt form (withByte form a p v) p ≡ v % 256
   byte-put-same a p v h =
       ap (λ b. byteAt form b p) (put-at a p v h)
       ∙ byte-block _ p h
@@ -62,7 +62,7 @@ module _ {B : Type 0} (form : Form B) (lawful : Lawful form) where
       way
       ∙ sym (byte-at a i l)
 
-  pub byte-put-other : (a : B) (p v i : ℕ) → (p ≡ i → ⊥) → byteAt form (withByte form a p v) i ≡ byteAt form a i
+  byte-put-other : (a : B) (p v i : ℕ) → (p ≡ i → ⊥) → byteAt form (withByte form a p v) i ≡ byteAt form a i
   byte-put-other a p v i apart = ⊎-elim within past (cases-lt i (form .size))
     where
       within : i < form .size → byteAt form (withByte form a p v) i ≡ byteAt form a i
@@ -107,7 +107,7 @@ module _ {B : Type 0} (form : Form B) (lawful : Lawful form) where
       (λ l. getD-past (bytesOf form a) i 0 (omega (arith, length-bytes a)) ∙ sym (byte-past a i l))
       (cases-lt i (form .size))
 
-  pub byte-zero : (i : ℕ) → byteAt form (zeroBlock form) i ≡ 0
+  byte-zero : (i : ℕ) → byteAt form (zeroBlock form) i ≡ 0
   byte-zero i =
       ⊎-elim
       (λ l. byte-at (zeroBlock form) i l
@@ -117,38 +117,38 @@ module _ {B : Type 0} (form : Form B) (lawful : Lawful form) where
       (cases-lt i (form .size))
 
   -- a string put in from a place on leaves what is before the place
-  filled-before : (xs : List ℕ) (a : B) (p i : ℕ) → i < p → byteAt form (filled form a p xs) i ≡ byteAt form a i
-  filled-before [] a p i l = refl
-  filled-before (x ∷ xs) a p i l =
-      filled-before xs (withByte form a p x) (p + 1) i (omega arith)
+  put-from-before : (xs : List ℕ) (a : B) (p i : ℕ) → i < p → byteAt form (putFrom form a p xs) i ≡ byteAt form a i
+  put-from-before [] a p i l = refl
+  put-from-before (x ∷ xs) a p i l =
+      put-from-before xs (withByte form a p x) (p + 1) i (omega arith)
       ∙ byte-put-other a p x i (λ e. omega arith)
 
-  filled-past : (xs : List ℕ) (a : B) (p i : ℕ)
+  put-from-past : (xs : List ℕ) (a : B) (p i : ℕ)
       → p + length xs ≤ i
-      → byteAt form (filled form a p xs) i ≡ byteAt form a i
-  filled-past [] a p i l = refl
-  filled-past (x ∷ xs) a p i l =
-      filled-past xs (withByte form a p x) (p + 1) i (omega arith)
+      → byteAt form (putFrom form a p xs) i ≡ byteAt form a i
+  put-from-past [] a p i l = refl
+  put-from-past (x ∷ xs) a p i l =
+      put-from-past xs (withByte form a p x) (p + 1) i (omega arith)
       ∙ byte-put-other a p x i (λ e. omega arith)
 
-  filled-at : (xs : List ℕ) (a : B) (p j : ℕ)
+  put-from-at : (xs : List ℕ) (a : B) (p j : ℕ)
       → j < length xs
       → p + j < form .size
-      → byteAt form (filled form a p xs) (p + j) ≡ getD xs j 0 % 256
-  filled-at [] a p j l h = absurd (omega arith)
-  filled-at (x ∷ xs) a p zero l h =
+      → byteAt form (putFrom form a p xs) (p + j) ≡ getD xs j 0 % 256
+  put-from-at [] a p j l h = absurd (omega arith)
+  put-from-at (x ∷ xs) a p zero l h =
       rw add-zero
-      (filled-before xs (withByte form a p x) (p + 1) p (omega arith)
+      (put-from-before xs (withByte form a p x) (p + 1) p (omega arith)
       ∙ byte-put-same a p x (omega arith))
-  filled-at (x ∷ xs) a p (suc j) l h =
+  put-from-at (x ∷ xs) a p (suc j) l h =
       let e : p + suc j ≡ p + 1 + j = omega arith in
-      rw e (filled-at xs (withByte form a p x) (p + 1) j (omega arith) (omega arith))
+      rw e (put-from-at xs (withByte form a p x) (p + 1) j (omega arith) (omega arith))
 
   pub byte-block-of : (xs : List ℕ) (i : ℕ) → i < form .size → byteAt form (blockOf form xs) i ≡ getD xs i 0 % 256
   byte-block-of xs i h =
       ⊎-elim
-      (λ l. rw zero-add at (filled-at xs (zeroBlock form) 0 i l (omega arith)))
-      (λ l. filled-past xs (zeroBlock form) 0 i (omega arith)
+      (λ l. rw zero-add at (put-from-at xs (zeroBlock form) 0 i l (omega arith)))
+      (λ l. put-from-past xs (zeroBlock form) 0 i (omega arith)
       ∙ byte-zero i
       ∙ sym (ap (λ x. x % 256) (getD-past xs i 0 l)))
       (cases-lt i (length xs))
@@ -173,7 +173,7 @@ module _ {B : Type 0} (form : Form B) (lawful : Lawful form) where
       ∙ byte-more x s k
       ∙ ap₂ (λ t j. x / 2 ^ t % 2 ^ (8 * j)) (sym next) (sym more)
 
-  pub number-bytes : (a : B) → number 256 (bytesOf form a) ≡ form .number a
+  number-bytes : (a : B) → number 256 (bytesOf form a) ≡ form .number a
   number-bytes a =
       let whole : 8 * (form .size - form .size) ≡ 0 = omega arith in
       digits a (form .size) (omega arith)
@@ -189,7 +189,7 @@ module _ {B : Type 0} (form : Form B) (lawful : Lawful form) where
       ∙ lawful .read b
 
   -- the bytes of the block of a string, from its front
-  pub bytes-block-of : (X : List ℕ)
+  bytes-block-of : (X : List ℕ)
       → IsString X
       → form .size ≤ length X
       → bytesOf form (blockOf form X) ≡ take (form .size) X

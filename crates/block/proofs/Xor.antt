@@ -1,8 +1,8 @@
 -- A kind whose blocks are given by their numbers is lawful: the number of a xor is the xor of the numbers.
 use mathlib.Core.Logic.{_⊎_}
 use mathlib.Core.Path.{_≡_, ap, sym, _∙_}
-use Prim.Native.Nat.{ℕ, _*_, _%_, _^_, _<_}
-use native.Mathlib.Nat.{mod-lt, mod-eq-of-lt}
+use Prim.Native.Nat.{ℕ, _*_, _%_, _^_}
+use native.Mathlib.Nat.{mod-eq-of-lt}
 use lib.Bits.{bitXor, xor-assoc, xor-comm, xor-zero-l, xor-self, xor-mod}
 use lib.Pow.{pow-pos}
 use Rattle.block.specs.Form.{Form}
@@ -14,9 +14,6 @@ module _ {B : Type 0} (form : Form B)
     (made : (x : ℕ) → form .number (form .block x) ≡ x % 2 ^ (8 * form .size)) where
   pub number-mod : (a : B) → form .number a % 2 ^ (8 * form .size) ≡ form .number a
   number-mod a = sym (made (form .number a)) ∙ ap (form .number) (read a)
-
-  pub number-lt : (a : B) → form .number a < 2 ^ (8 * form .size)
-  number-lt a = rw (← number-mod a) (mod-lt (form .number a) (pow-pos (8 * form .size)))
 
   pub number-xored : (a b : B) → form .number (xored form a b) ≡ bitXor (form .number a) (form .number b)
   number-xored a b =

@@ -60,10 +60,10 @@ module _ {B : Type 0} (form : Form B) where
   bytesOf a = map (byteAt a) (counting 0 (form .size))
 
   -- a block with the bytes of a string put in from a place on
-  abbrev pub filled : B → ℕ → List ℕ → B
-  filled a place [] = a
-  filled a place (x ∷ xs) = filled (withByte a place x) (place + 1) xs
+  abbrev pub putFrom : B → ℕ → List ℕ → B
+  putFrom a place [] = a
+  putFrom a place (x ∷ xs) = putFrom (withByte a place x) (place + 1) xs
 
   -- the block whose bytes are the first n of a string, and 00 where it has no more
   abbrev pub blockOf : List ℕ → B
-  blockOf xs = filled zeroBlock 0 xs
+  blockOf xs = putFrom zeroBlock 0 xs

@@ -4,7 +4,7 @@ ghost use Prim.Native.Nat.{ℕ, _^_, _<_, _≤_};
 ghost use lib.ListN.{getD};
 ghost use Rattle.block.specs.Form.{Form};
 ghost use Rattle.block.specs.Lawful.{Lawful};
-ghost use Rattle.block.specs.Blocks.{zeroBlock, endBlock, xored, byteAt, withByte, shiftedLeft, doubled, following, replaced, blockOf};
+ghost use Rattle.block.specs.Blocks.{zeroBlock, endBlock, xored, byteAt, withByte, shiftedLeft, doubled, following, shift as shiftOf, replaced, blockOf};
 
 pub trait Block: Copy {
     ghost form: { Form Self };
@@ -75,7 +75,7 @@ pub trait Block: Copy {
         if place >= width {
             return 0;
         }
-        ((self.number() >> (8 * (width - 1 - place))) % 256) as u8
+        ((self.number() >> lowest_bit(width, place)) % 256) as u8
     }
 
     // The block with another byte at a place; past its last, nothing is replaced.
@@ -86,7 +86,7 @@ pub trait Block: Copy {
         if place >= width {
             return self;
         }
-        Self::from_number(with_byte(self.number(), 8 * (width - 1 - place), byte))
+        Self::from_number(with_byte(self.number(), lowest_bit(width, place), byte))
     }
 
     // The block whose bytes are the first n of a string, and 00 where it has no more.
@@ -102,6 +102,15 @@ pub trait Block: Copy {
     }
 }
 
+// Where the byte at a place begins, in bits from the lowest.
+fn lowest_bit(width: usize, place: usize) -> usize
+    requires { ⌜ place < width ⌝ ∗ ⌜ width ≤ 16 ⌝ }
+    ensures value { λ r. ⌜ r ≡ shiftOf width place ⌝ }
+    ensures bound { λ r. ⌜ r ≤ 120 ⌝ }
+{
+    8 * (width - 1 - place)
+}
+
 // What the lowest bit of a byte counts for.
 fn unit(shift: usize) -> u128
     requires { ⌜ shift ≤ 120 ⌝ }
@@ -111,7 +120,8 @@ fn unit(shift: usize) -> u128
     1 << shift
 }
 
-// The number with another byte at a place, told by its lowest bit.
+// The number with another byte, told by its lowest bit: what is above it, the byte, and what is below it. A mask for the
+// byte would be shorter, and harder to prove right.
 fn with_byte(number: u128, shift: usize, byte: u8) -> u128
     requires { ⌜ shift ≤ 120 ⌝ }
     ensures { λ r. ⌜ r ≡ replaced number shift byte ⌝ }

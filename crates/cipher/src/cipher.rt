@@ -31,6 +31,7 @@ pub trait Cipher {
     fn block_len() -> usize
         ensures { λ r. ⌜ r ≡ size ⌝ };
 
+    // What the law `wide` says comes with each answer, too.
     fn encrypt(&self, block: Self::Block) -> Self::Block
         ensures value { λ r. ⌜ r ≡ F (now (self .entry)) block ⌝ }
         ensures width { λ _. ⌜ size ≡ Block·Block .form .size ⌝ };

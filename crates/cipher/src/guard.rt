@@ -19,6 +19,7 @@ impl Drop for LentKey<'_> {
         ensures { λ _. ⌜ now (self .exit .0) ≡ replicate (length (now (self .entry .bytes))) 0 ⌝ }
     {
         self.bytes.fill(0);
+        // taking it apart is how a `drop` ends
         let LentKey { bytes: _ } = self;
     }
 }

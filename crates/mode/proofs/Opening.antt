@@ -19,7 +19,7 @@ use Rattle.block.specs.Form.{Form}
 use Rattle.block.specs.Lawful.{Lawful}
 use Rattle.block.specs.ByBytes.{IsString}
 use Rattle.mode.specs.Strings.{ctr, nonceBlock, ciphertext, tag, opening}
-use Rattle.mode.specs.Laws.{Ctr, Gives, Opens}
+use Rattle.mode.specs.Laws.{CtrUndoes, Gives, Opens}
 use Rattle.mode.proofs.Ctr.{ctr-laws}
 
 module _ {B : Type 0} (form : Form B) (lawful : Lawful form) (F : B → B) (N H C T : List ℕ) where
@@ -27,7 +27,7 @@ module _ {B : Type 0} (form : Form B) (lawful : Lawful form) (F : B → B) (N H 
   answer : Bool → Bool → Result (List ℕ) RecordFault
   answer fits same = cond fits (cond same (Ok (ctr form F (nonceBlock form F N) C)) (Err TagWrong)) (Err TagLength)
 
-  law : (X : List ℕ) → Ctr form F (nonceBlock form F N) X
+  law : (X : List ℕ) → CtrUndoes form F (nonceBlock form F N) X
   law = ctr-laws form lawful F (nonceBlock form F N)
 
   given : (M : List ℕ) (fits same : Bool)

@@ -25,7 +25,7 @@ module _ {B : Type 0} (form : Form B) where
 
   module _ (F : B → B) where
     -- CTR twice under one S gives a string back, so that a ciphertext has one message
-    pub record Ctr (S : B) (X : List ℕ) : Type 0 where
+    pub record CtrUndoes (S : B) (X : List ℕ) : Type 0 where
       pub len : length (ctr form F S X) ≡ length X
       pub string : IsString (ctr form F S X)
       pub twice : IsString X → ctr form F S (ctr form F S X) ≡ X

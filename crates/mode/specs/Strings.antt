@@ -21,8 +21,8 @@ module _ {B : Type 0} (form : Form B) where
       take front X ++ bytesOf form (xored form (blockOf form (drop front X)) b)
 
   -- a block xored into the first n bytes of a string, or as many as it has
-  unfoldable pub cover : B → List ℕ → List ℕ
-  cover b X = take (length X) (bytesOf form (xored form (blockOf form X) b))
+  unfoldable pub intoFirst : B → List ℕ → List ℕ
+  intoFirst b X = take (length X) (bytesOf form (xored form (blockOf form X) b))
 
   -- not empty, and whole blocks
   unfoldable pub isFull : List ℕ → Bool
@@ -45,27 +45,27 @@ module _ {B : Type 0} (form : Form B) where
     unfoldable pub pad : List ℕ → List ℕ
     pad X = cond (isFull X) (intoLast twoL X) (intoLast fourL (filledUp X))
 
-    -- each block of a string in turn is xored in, and F applied
-    unfoldable pub chain : (blocks : ℕ) → B → List ℕ → B
-    chain zero v X = v
-    chain (suc blocks) v X = chain blocks (F (xored form v (blockOf form X))) (drop (form .size) X)
+    -- CBC from v: each block of a string in turn is xored in, and F applied
+    unfoldable pub cbc : (blocks : ℕ) → B → List ℕ → B
+    cbc zero v X = v
+    cbc (suc blocks) v X = cbc blocks (F (xored form v (blockOf form X))) (drop (form .size) X)
 
-    -- CMAC: the chain of the padded string, from the zero block
+    -- CMAC: CBC of the padded string, from the zero block
     unfoldable pub cmac : List ℕ → B
-    cmac X = chain (length (pad X) / form .size) (zeroBlock form) (pad X)
+    cmac X = cbc (length (pad X) / form .size) (zeroBlock form) (pad X)
 
     -- OMAC under t: CMAC of [t] followed by the string
     unfoldable pub omac : ℕ → List ℕ → B
     omac t X = cmac (bytesOf form (endBlock form t) ++ X)
 
-    -- F(S), F(S + 1), F(S + 2) and so on, each xored into a block of the string
-    unfoldable pub covered : (blocks : ℕ) → B → List ℕ → List ℕ
-    covered zero S X = []
-    covered (suc blocks) S X = cover (F S) X ++ covered blocks (following form S) (drop (form .size) X)
+    -- F(S), F(S + 1), F(S + 2) and so on, each xored into a block of a string
+    unfoldable pub ctrBlocks : (blocks : ℕ) → B → List ℕ → List ℕ
+    ctrBlocks zero S X = []
+    ctrBlocks (suc blocks) S X = intoFirst (F S) X ++ ctrBlocks blocks (following form S) (drop (form .size) X)
 
     -- CTR from S: the last block may be short
     unfoldable pub ctr : B → List ℕ → List ℕ
-    ctr S X = covered ((length X + form .size - 1) / form .size) S X
+    ctr S X = ctrBlocks ((length X + form .size - 1) / form .size) S X
 
     -- of a nonce N, a header H, a message M, a ciphertext C and a tag T
     unfoldable pub nonceBlock : (N : List ℕ) → B
@@ -74,14 +74,14 @@ module _ {B : Type 0} (form : Form B) where
     unfoldable pub headerBlock : (H : List ℕ) → B
     headerBlock H = omac 1 H
 
-    unfoldable pub cipherBlock : (C : List ℕ) → B
-    cipherBlock C = omac 2 C
+    unfoldable pub ciphertextBlock : (C : List ℕ) → B
+    ciphertextBlock C = omac 2 C
 
     unfoldable pub ciphertext : (N M : List ℕ) → List ℕ
     ciphertext N M = ctr (nonceBlock N) M
 
     unfoldable pub tagBlock : (N H C : List ℕ) → B
-    tagBlock N H C = xored form (xored form (nonceBlock N) (headerBlock H)) (cipherBlock C)
+    tagBlock N H C = xored form (xored form (nonceBlock N) (headerBlock H)) (ciphertextBlock C)
 
     -- the tag of u bytes
     unfoldable pub tag : (u : ℕ) (N H C : List ℕ) → List ℕ

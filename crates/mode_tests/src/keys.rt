@@ -23,7 +23,7 @@ fn of_zero<C: Cipher>(cipher: &C) -> u128 {
 }
 
 #[test]
-fn fresh_has_no_key() -> Result<(), Fail> {
+fn fresh_key_is_zero() -> Result<(), Fail> {
     check_eq(of_zero(&Bench::fresh()), 0)?;
     check_eq(of_zero(&Wide::fresh()), 1).note("F adds one")
 }

@@ -13,13 +13,38 @@ use wire::fault::RecordFaultDebug;
 // The N-block of this nonce is sixteen FF, so that the counter's carry runs through the whole block.
 const NONCE: &[u8] = b"\xFF\xFF\xFF\xFF\xFF\xFF\xFF\xFF\xFF\xFF\xFF\xFF\xFF\xFF\xFF\x7E";
 
-// One block, and a byte of the next.
-const HEADER: &[u8] = &[1, 2, 3, 4, 5, 6, 7, 8, 9, 10, 11, 12, 13, 14, 15, 16, 17];
+// One block and a half.
+const HEADER: &[u8] = &[
+    1,
+    2,
+    3,
+    4,
+    5,
+    6,
+    7,
+    8,
+    9,
+    10,
+    11,
+    12,
+    13,
+    14,
+    15,
+    16,
+    17,
+    18,
+    19,
+    20,
+    21,
+    22,
+    23,
+    24,
+];
 
 // Of a message of seventeen 00.
 const CIPHERTEXT: &[u8] = b"\x7F\xFF\xFF\xFF\xFF\xFF\xFF\xFF\xFF\xFF\xFF\xFF\xFF\xFF\xFF\xFF\x80";
 
-const TAG_BLOCK: &[u8] = b"\x10\x02\x03\x04\x05\x06\x07\x08\x09\x0A\x0B\x0C\x0D\x0E\x0F\x15";
+const TAG_BLOCK: &[u8] = b"\x10\x90\x10\x10\x10\x10\x10\x10\x89\x0A\x0B\x0C\x0D\x0E\x0F\x15";
 
 fn keyed() -> Result<Wide, Fail> {
     let mut wide = Wide::fresh();
@@ -64,6 +89,6 @@ fn opened(rt: LibcRuntime) -> Result<(), Fail> {
     check_eq(verdict(&eax, HEADER, &TAG_BLOCK[0..4])?, 0)?;
     check_eq(verdict(&eax, HEADER, &TAG_BLOCK[0..3])?, 5)?;
     check_eq(verdict(&eax, HEADER, &[0; 17])?, 5)?;
-    check_eq(verdict(&eax, HEADER, &[0x10, 2, 3, 5])?, 6)?;
+    check_eq(verdict(&eax, HEADER, &[0x10, 0x90, 0x10, 0x11])?, 6)?;
     check_eq(verdict(&eax, &HEADER[0..16], TAG_BLOCK)?, 6)
 }

@@ -1,4 +1,5 @@
 // EAX over whole strings, written as plainly as it can be, to run values by.
+ghost use Prim.Native.Nat.{_<_};
 use block::block::Block;
 use cipher::cipher::Cipher;
 use mode::sum::sum;
@@ -28,26 +29,31 @@ pub fn bytes<B: Block>(heap: Global, block: B) -> Result<Vec<u8>, AllocError> {
     Ok(bytes)
 }
 
+// n. It is never 0, and `max` is how that is known here.
+fn block_len<C: Cipher>() -> usize
+    ensures { λ r. ⌜ 0 < r ⌝ }
+{
+    C::block_len().max(1)
+}
+
 impl<C: Cipher> Eax<'_, C> {
     // Pads a string, and says what its last block is masked with.
     fn padded(&self, string: &[u8]) -> Result<(Vec<u8>, C::Block), AllocError> {
-        let n = C::block_len().max(1);
+        let n = block_len::<C>();
         let mask = self.cipher.encrypt(C::Block::ending(0)).double();
         let mut padded = string.to_vec(self.heap)?;
         if !string.is_empty() && string.len() % n == 0 {
             return Ok((padded, mask));
         }
         padded.push(0x80)?;
-        for _ in 0..n {
-            if padded.len() % n != 0 {
-                padded.push(0)?;
-            }
+        for _ in 0..n - 1 - string.len() % n {
+            padded.push(0)?;
         }
         Ok((padded, mask.double()))
     }
 
     pub fn cmac(&self, string: &[u8]) -> Result<C::Block, AllocError> {
-        let n = C::block_len().max(1);
+        let n = block_len::<C>();
         let (padded, mask) = self.padded(string)?;
         let last = (padded.len() / n).saturating_sub(1);
         let mut value = C::Block::zero();
@@ -70,7 +76,7 @@ impl<C: Cipher> Eax<'_, C> {
     pub fn ctr(&self, start: C::Block, string: &[u8]) -> Result<Vec<u8>, AllocError> {
         let mut counter = start;
         let mut covered = Vec::new(self.heap);
-        for block in string.chunks(C::block_len().max(1)) {
+        for block in string.chunks(block_len::<C>()) {
             let stream = self.cipher.encrypt(counter);
             for (place, byte) in block.iter().enumerate() {
                 covered.push(*byte ^ stream.byte(place))?;

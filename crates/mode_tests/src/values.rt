@@ -1,6 +1,5 @@
 // The table of worked values, run.
 use crate::reference::Eax;
-use crate::reference::Sealed;
 use crate::reference::bytes;
 use crate::wide::Wide;
 use crate::wide::WideCipher;
@@ -13,25 +12,32 @@ use block::kinds::Block16Block;
 use cipher::bench::Bench;
 use cipher::bench::BenchCipher;
 use cipher::bench::BenchKeyed;
+use cipher::cipher::Cipher;
 use cipher::load::Keyed;
 use cipher::load::load;
 use mode::table::table;
+use mode::worked::OpenRow;
+use mode::worked::SealRow;
 use mode::worked::Worked;
 use std::alloc::Global;
 use std::test::*;
-use wire::fault::RecordFault;
 use wire::fault::RecordFaultDebug;
 
 fn check_bytes<B: Block>(heap: Global, block: B, answer: &[u8]) -> Result<(), Fail> {
     check_eq(bytes(heap, block)?.as_slice(), answer)
 }
 
-// What opening answers: the message, or the refusal's number.
-fn check_opened(
-    opened: Result<Vec<u8>, RecordFault>,
-    answer: Result<&[u8], u8>,
-) -> Result<(), Fail> {
-    match (opened, answer) {
+fn check_sealed<C: Cipher>(eax: &Eax<'_, C>, row: SealRow) -> Result<(), Fail> {
+    let sealed = eax.seal(row.nonce, row.header, row.message)?;
+    check_eq(sealed.ciphertext.as_slice(), row.ciphertext)?;
+    check_bytes(eax.heap, sealed.tag_block, row.tag_block)
+}
+
+fn check_opened<C: Cipher>(eax: &Eax<'_, C>, row: OpenRow) -> Result<(), Fail> {
+    match (
+        eax.open(row.nonce, row.header, row.ciphertext, row.tag)?,
+        row.answer,
+    ) {
         (Ok(opened), Ok(message)) => check_eq(opened.as_slice(), message),
         (Err(fault), Err(number)) => check_eq(fault.number(), number),
         (Ok(_), Err(_)) => Err(Fail::new("opened")),
@@ -39,67 +45,25 @@ fn check_opened(
     }
 }
 
-fn check_sealed<B: Block>(
-    heap: Global,
-    sealed: Sealed<B>,
-    ciphertext: &[u8],
-    tag_block: &[u8],
-) -> Result<(), Fail> {
-    check_eq(sealed.ciphertext.as_slice(), ciphertext)?;
-    check_bytes(heap, sealed.tag_block, tag_block)
-}
-
 fn check_row(eax: &Eax<'_, Bench>, eax16: &Eax<'_, Wide>, row: Worked) -> Result<(), Fail> {
     let heap = eax.heap;
     match row {
-        Worked::Doubled8 { block, answer } => check_bytes(
+        Worked::Doubled8(row) => check_bytes(
             heap,
-            Block8::from_bytes(block).double(),
-            answer,
+            Block8::from_bytes(row.block).double(),
+            row.answer,
         ),
-        Worked::Doubled16 { block, answer } => check_bytes(
+        Worked::Doubled16(row) => check_bytes(
             heap,
-            Block16::from_bytes(block).double(),
-            answer,
+            Block16::from_bytes(row.block).double(),
+            row.answer,
         ),
-        Worked::Next8 { block, answer } => check_bytes(
-            heap,
-            Block8::from_bytes(block).next(),
-            answer,
-        ),
-        Worked::Cmac { string, answer } => check_bytes(heap, eax.cmac(string)?, answer),
-        Worked::Omac { t, string, answer } => check_bytes(heap, eax.omac(t, string)?, answer),
-        Worked::Sealed {
-            nonce,
-            header,
-            message,
-            ciphertext,
-            tag_block,
-        } => check_sealed(
-            heap,
-            eax.seal(nonce, header, message)?,
-            ciphertext,
-            tag_block,
-        ),
-        Worked::Sealed16 {
-            nonce,
-            header,
-            message,
-            ciphertext,
-            tag_block,
-        } => check_sealed(
-            heap,
-            eax16.seal(nonce, header, message)?,
-            ciphertext,
-            tag_block,
-        ),
-        Worked::Opened {
-            nonce,
-            header,
-            ciphertext,
-            tag,
-            answer,
-        } => check_opened(eax.open(nonce, header, ciphertext, tag)?, answer),
+        Worked::Next8(row) => check_bytes(heap, Block8::from_bytes(row.block).next(), row.answer),
+        Worked::Cmac(row) => check_bytes(heap, eax.cmac(row.string)?, row.answer),
+        Worked::Omac(t, row) => check_bytes(heap, eax.omac(t, row.string)?, row.answer),
+        Worked::Sealed(row) => check_sealed(eax, row),
+        Worked::Opened(row) => check_opened(eax, row),
+        Worked::Sealed16(row) => check_sealed(eax16, row),
     }
 }
 

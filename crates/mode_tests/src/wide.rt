@@ -1,4 +1,5 @@
-// A cipher for tests, with blocks and a key of 16 bytes: F(b) is b xor the key, and one more.
+// A cipher for tests, with blocks and a key of 16 bytes: F(b) is b xor the key, and one more. Its kind is that of AES-128,
+// the one kind that has blocks of 16 bytes.
 ghost use Rattle.block.specs.Blocks.{xored, following, blockOf};
 ghost use Rattle.block.specs.Kinds.{form16};
 use block::block::Block;

@@ -3,7 +3,7 @@ use mathlib.Core.Path.{_≡_, ap, sym, _∙_}
 use native.Mathlib.Nat.{mod-eq-of-lt}
 use mir.Facts.{fits-lt-pow}
 use Rattle.std.proofs.shelf.Lists.{at-drop-more, at-drop-all}
-use Rattle.block.specs.Blocks.{byteAt, filled, blockOf}
+use Rattle.block.specs.Blocks.{byteAt, putFrom, blockOf}
 use Rattle.block.proofs.Bytes.{byte-block-of}
 use Rattle.block.proofs.block.Block.from_bytes.Needs as need
 
@@ -12,7 +12,7 @@ loop-place-again g c =
     let form = g .Self·Block .form in
     let xs = c .args .bytes .now in
     let i = c .loop-place .place in
-    let step = at-drop-more (filled form (c .loop-place .block) i) xs i 0 (c .loop-place-test .taken) in
+    let step = at-drop-more (putFrom form (c .loop-place .block) i) xs i 0 (c .loop-place-test .taken) in
     rw (c .put-block .ensures) (sym step ∙ c .loop-place .inv)
 
 pub returns : need.returns
@@ -21,7 +21,7 @@ returns g c =
     let xs = c .args .bytes .now in
     let i = c .loop-place .place in
     let value : c .loop-place .block ≡ blockOf form xs =
-    sym (at-drop-all (filled form (c .loop-place .block) i) xs i (c .loop-place-test .left)) ∙ c .loop-place .inv in
+    sym (at-drop-all (putFrom form (c .loop-place .block) i) xs i (c .loop-place-test .left)) ∙ c .loop-place .inv in
     record {
       value = value;
       places = λ j l.
