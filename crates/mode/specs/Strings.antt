@@ -1,4 +1,4 @@
--- The strings of EAX, over the meaning F of a cipher and its kind of block. Assumes nothing.
+-- What EAX computes: strings over the meaning F of a cipher and its kind of block. Assumes nothing.
 use mathlib.Core.Bool.{Bool, cond, _&&_}
 use mathlib.Core.List.{List, [], _∷_, _++_}
 use Prim.Native.Nat.{ℕ, zero, suc, _+_, _-_, _/_, _%_}

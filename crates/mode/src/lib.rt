@@ -1,4 +1,4 @@
-// The strings of EAX over what a cipher means, with their laws and some values worked by hand.
+// What EAX computes over what a cipher means, with its laws and some values worked by hand.
 pub mod laws;
 pub mod sum;
 pub mod table;
