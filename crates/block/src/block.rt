@@ -7,8 +7,10 @@ ghost use Rattle.block.specs.Lawful.{Lawful};
 ghost use Rattle.block.specs.Blocks.{zeroBlock, endBlock, xored, byteAt, withByte, shiftedLeft, doubled, following, shift as shiftOf, replaced, blockOf};
 
 pub trait Block: Copy {
+    // How a block is read as a number. What each call answers is a definition over this.
     ghost form: { Form Self };
 
+    // n is 8 or 16, a block is given by its number, and xor obeys its four laws.
     law lawful: { Lawful form };
 
     // n, the bytes of a block.

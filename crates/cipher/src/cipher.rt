@@ -13,14 +13,18 @@ pub trait Cipher {
     // n, the bytes of a block.
     const N: usize;
 
+    // What `KIND` and `N` are in clauses.
     ghost kind: { ℕ };
 
     ghost size: { ℕ };
 
+    // The cipher's meaning.
     ghost F: { Self → Self·Block → Self·Block };
 
+    // The kind is a sealed one of the one list of kinds, and n is that kind's.
     law named: { SealedKind kind size };
 
+    // And n is that of the kind of block.
     law wide: { size ≡ Block·Block .form .size };
 
     // `KIND`, for code that knows only the trait.

@@ -11,6 +11,7 @@ use wire::fault::RecordFault;
 pub trait Keyed: Cipher {
     const KEY_LEN: usize;
 
+    // What `KEY_LEN` is in clauses.
     ghost keySize: { ℕ };
 
     // The cipher under some key bytes.
