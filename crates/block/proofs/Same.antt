@@ -3,8 +3,6 @@ use mathlib.Core.HLevel.{isProp→PathP}
 use mathlib.Core.Path.{PathP, _≡_}
 use Prim.Native.Nat.{ℕ, _<_, _^_}
 use native.Mathlib.Bridge.{le-prop}
-use native.Mathlib.Nat.{mod-eq-of-lt}
-use Rattle.block.specs.Kinds.{form8, form16}
 use Rattle.block.specs.declared.block8.Block8.{Block8}
 use Rattle.block.specs.declared.block16.Block16.{Block16}
 
@@ -16,9 +14,3 @@ same8 a b p = λ i. record { number = p i; fits = fits-along (2 ^ 64) p (a .fits
 
 pub same16 : (a b : Block16) → a .number ≡ b .number → a ≡ b
 same16 a b p = λ i. record { number = p i; fits = fits-along (2 ^ 128) p (a .fits) (b .fits) i }
-
-pub read8 : (a : Block8) → form8 .block (form8 .number a) ≡ a
-read8 a = same8 _ a (mod-eq-of-lt (a .fits))
-
-pub read16 : (a : Block16) → form16 .block (form16 .number a) ≡ a
-read16 a = same16 _ a (mod-eq-of-lt (a .fits))

@@ -1,7 +1,7 @@
 -- A kind whose blocks are given by their numbers is lawful: the number of a xor is the xor of the numbers.
 use mathlib.Core.Logic.{_⊎_}
 use mathlib.Core.Path.{_≡_, ap, sym, _∙_}
-use Prim.Native.Nat.{ℕ, _*_, _%_, _^_}
+use Prim.Native.Nat.{ℕ, _*_, _%_, _^_, _<_}
 use native.Mathlib.Nat.{mod-eq-of-lt}
 use lib.Bits.{bitXor, xor-assoc, xor-comm, xor-zero-l, xor-self, xor-mod}
 use lib.Pow.{pow-pos}
@@ -43,8 +43,8 @@ module _ {B : Type 0} (form : Form B)
   cancelling : (a : B) → xored form a a ≡ zeroBlock form
   cancelling a = ap (form .block) (xor-self (form .number a))
 
-  pub lawful-by-number : (form .size ≡ 8) ⊎ (form .size ≡ 16) → Lawful form
-  lawful-by-number sized =
+  lawful : (form .size ≡ 8) ⊎ (form .size ≡ 16) → Lawful form
+  lawful sized =
       record {
         sized = sized;
         read = read;
@@ -54,3 +54,10 @@ module _ {B : Type 0} (form : Form B)
         neutral = neutral;
         cancelling = cancelling;
       }
+
+module _ {B : Type 0} (form : Form B)
+    (same : (a b : B) → form .number a ≡ form .number b → a ≡ b)
+    (fits : (a : B) → form .number a < 2 ^ (8 * form .size))
+    (made : (x : ℕ) → form .number (form .block x) ≡ x % 2 ^ (8 * form .size)) where
+  pub lawful-by-number : (form .size ≡ 8) ⊎ (form .size ≡ 16) → Lawful form
+  lawful-by-number = lawful form (λ a. same _ a (made (form .number a) ∙ mod-eq-of-lt (fits a))) made

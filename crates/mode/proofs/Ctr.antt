@@ -14,7 +14,7 @@ use Rattle.std.proofs.shelf.Lists.{take-all, drop-at, ext-getD, nil-from-length
 use Rattle.std.proofs.shelf.Tests.{cases-lt}
 use Rattle.block.specs.Form.{Form}
 use Rattle.block.specs.Lawful.{Lawful}
-use Rattle.block.specs.Blocks.{xored, byteAt, following, bytesOf, blockOf}
+use Rattle.block.specs.Blocks.{xored, byteAt, following, blockOf}
 use Rattle.block.proofs.Bytes.{byte-lt, byte-xor, length-bytes, getD-bytes, byte-block-of, string-bytes}
 use Rattle.block.specs.ByBytes.{IsString}
 use Rattle.mode.specs.Strings.{intoFirst, ctrBlocks, ctr}

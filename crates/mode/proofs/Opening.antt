@@ -1,5 +1,5 @@
 -- Opening hands out a message exactly when one gives the ciphertext and the tag: CTR undoes itself, so that the message is
--- found by covering the ciphertext again.
+-- CTR of the ciphertext.
 use mathlib.Core.Bool.{Bool, true, false, cond}
 use mathlib.Core.List.{List}
 use mathlib.Core.Path.{_≡_, refl, ap, sym, _∙_}
@@ -41,7 +41,7 @@ module _ {B : Type 0} (form : Form B) (lawful : Lawful form) (F : B → B) (N H 
       let found : ctr form F (nonceBlock form F N) C ≡ M = cc in
       record {
         string = rw (← found) (law C .string);
-        covers = ap (ctr form F (nonceBlock form F N)) (sym found) ∙ law C .twice c;
+        sealed = ap (ctr form F (nonceBlock form F N)) (sym found) ∙ law C .twice c;
         fits = f;
         tagged = sym (sameBytes-decides T _ .0 t);
       }
@@ -63,8 +63,8 @@ module _ {B : Type 0} (form : Form B) (lawful : Lawful form) (F : B → B) (N H 
             let same : sameBytes T (tag form F (length T) N H C) ≡ true = sameBytes-decides T _ .1 (sym (g .tagged)) in
             cond-true _ _ _ (g .fits)
             ∙ cond-true _ _ _ same
-            ∙ ap (λ X. Ok (ctr form F (nonceBlock form F N) X)) (sym (g .covers))
+            ∙ ap (λ X. Ok (ctr form F (nonceBlock form F N) X)) (sym (g .sealed))
             ∙ ap Ok (law M .twice (g .string));
-        one = λ M M′ g g′. law M .one M′ (g .string) (g′ .string) (g .covers ∙ sym (g′ .covers));
+        one = λ M M′ g g′. law M .one M′ (g .string) (g′ .string) (g .sealed ∙ sym (g′ .sealed));
         refused = λ fault e. refused fault _ _ e;
       }

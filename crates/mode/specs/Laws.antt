@@ -34,7 +34,7 @@ module _ {B : Type 0} (form : Form B) where
     -- a message gives C and T: C is its ciphertext, and T its tag of some 4 to n bytes
     pub record Gives (N H M C T : List ℕ) : Type 0 where
       pub string : IsString M
-      pub covers : ciphertext form F N M ≡ C
+      pub sealed : ciphertext form F N M ≡ C
       pub fits : isTagLen (form .size) (length T) ≡ true
       pub tagged : tag form F (length T) N H C ≡ T
 

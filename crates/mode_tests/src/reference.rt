@@ -9,19 +9,19 @@ use wire::fault::RecordFault;
 use wire::limits::is_tag_len;
 
 #[derive(Drop)]
-pub struct Sealed<B> {
-    pub ciphertext: Vec<u8>,
-    pub tag_block: B,
+pub(crate) struct Sealed<B> {
+    pub(crate) ciphertext: Vec<u8>,
+    pub(crate) tag_block: B,
 }
 
 #[derive(Drop)]
-pub struct Eax<'a, C> {
-    pub cipher: &'a C,
-    pub heap: Global,
+pub(crate) struct Eax<'a, C> {
+    pub(crate) cipher: &'a C,
+    pub(crate) heap: Global,
 }
 
 // The bytes of a block, from its first.
-pub fn bytes<B: Block>(heap: Global, block: B) -> Result<Vec<u8>, AllocError> {
+pub(crate) fn bytes<B: Block>(heap: Global, block: B) -> Result<Vec<u8>, AllocError> {
     let mut bytes = Vec::new(heap);
     for place in 0..B::width() {
         bytes.push(block.byte(place))?;
@@ -52,7 +52,7 @@ impl<C: Cipher> Eax<'_, C> {
         Ok((padded, mask.double()))
     }
 
-    pub fn cmac(&self, string: &[u8]) -> Result<C::Block, AllocError> {
+    pub(crate) fn cmac(&self, string: &[u8]) -> Result<C::Block, AllocError> {
         let n = block_len::<C>();
         let (padded, mask) = self.padded(string)?;
         let last = (padded.len() / n).saturating_sub(1);
@@ -67,26 +67,26 @@ impl<C: Cipher> Eax<'_, C> {
         Ok(value)
     }
 
-    pub fn omac(&self, t: u8, string: &[u8]) -> Result<C::Block, AllocError> {
+    pub(crate) fn omac(&self, t: u8, string: &[u8]) -> Result<C::Block, AllocError> {
         let mut tweaked = bytes(self.heap, C::Block::ending(t))?;
         tweaked.extend_from_slice(string)?;
         self.cmac(tweaked.as_slice())
     }
 
-    pub fn ctr(&self, start: C::Block, string: &[u8]) -> Result<Vec<u8>, AllocError> {
+    pub(crate) fn ctr(&self, start: C::Block, string: &[u8]) -> Result<Vec<u8>, AllocError> {
         let mut counter = start;
-        let mut covered = Vec::new(self.heap);
+        let mut text = Vec::new(self.heap);
         for block in string.chunks(block_len::<C>()) {
             let stream = self.cipher.encrypt(counter);
             for (place, byte) in block.iter().enumerate() {
-                covered.push(*byte ^ stream.byte(place))?;
+                text.push(*byte ^ stream.byte(place))?;
             }
             counter = counter.next();
         }
-        Ok(covered)
+        Ok(text)
     }
 
-    pub fn tag_block(
+    pub(crate) fn tag_block(
         &self,
         nonce: &[u8],
         header: &[u8],
@@ -99,7 +99,7 @@ impl<C: Cipher> Eax<'_, C> {
         ))
     }
 
-    pub fn seal(
+    pub(crate) fn seal(
         &self,
         nonce: &[u8],
         header: &[u8],
@@ -113,7 +113,7 @@ impl<C: Cipher> Eax<'_, C> {
         })
     }
 
-    pub fn open(
+    pub(crate) fn open(
         &self,
         nonce: &[u8],
         header: &[u8],

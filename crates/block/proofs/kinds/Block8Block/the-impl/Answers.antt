@@ -2,9 +2,9 @@
 use mathlib.Core.Logic.{inl}
 use mathlib.Core.Path.{refl}
 use Rattle.block.specs.Kinds.{form8}
-use Rattle.block.proofs.Same.{read8}
+use Rattle.block.proofs.Same.{same8}
 use Rattle.block.proofs.Xor.{lawful-by-number}
 use Rattle.block.proofs.kinds.Block8Block.the-impl.Needs as need
 
 pub lawful-law : need.lawful-law
-lawful-law = lawful-by-number form8 read8 (λ x. refl) (inl refl)
+lawful-law = lawful-by-number form8 same8 (λ a. a .fits) (λ x. refl) (inl refl)
