@@ -5,5 +5,5 @@ use crate::block::Block;
 
 // A block has n bytes, is given by them, and is read as the number that they write.
 pub fn a_block_is_its_bytes<B: Block>()
-    ensures { ByBytes form }
+    ensures { ByBytes B.form }
 {}

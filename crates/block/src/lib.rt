@@ -1,4 +1,6 @@
 // A block of n bytes, read as a number.
+#![tactic(auto)]
+
 pub mod block;
 pub mod block16;
 pub mod block8;

@@ -1,4 +1,6 @@
 // Lists the pass file on standard input.
+#![tactic(auto)]
+
 use anyhow::anyhow;
 use listing::list::{INPUT_MAX, listing};
 use std::env;

@@ -16,7 +16,7 @@ pub const INPUT_MAX: usize = 65536;
 
 // Writing to a `String` fails for want of memory only.
 fn write_line<D: Display + Drop>(text: &mut String, value: D) -> Result<(), AllocError>
-    ensures { OnOk result (IfSome (output value) (λ bs. string_bytes text.new ≡ string_bytes text.old ++ line bs)) }
+    ensures { OnOk result (IfSome (D.output value) (λ bs. string_bytes text.new ≡ string_bytes text.old ++ line bs)) }
 {
     match text.writeln(value) {
         Ok(()) => Ok(()),

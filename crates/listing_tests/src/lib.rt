@@ -1,4 +1,6 @@
 // Tests of the listing, the walk and the faults.
+#![tactic(auto)]
+
 #[cfg(test)]
 mod cases;
 #[cfg(test)]

@@ -6,10 +6,10 @@ use block::block::Block;
 
 // CTR twice gives a string back, so a ciphertext has one message.
 pub fn ctr_undoes_itself<B: Block>()
-    ensures { (F : B → B) (S : B) (X : List ℕ) → CtrUndoes form F S X }
+    ensures { (F : B → B) (S : B) (X : List ℕ) → CtrUndoes B.form F S X }
 {}
 
 // Opening hands out the message that gives the ciphertext and the tag, if there is one.
 pub fn opening_is_exact<B: Block>()
-    ensures { (F : B → B) (N H C T : List ℕ) → Opens form F N H C T }
+    ensures { (F : B → B) (N H C T : List ℕ) → Opens B.form F N H C T }
 {}

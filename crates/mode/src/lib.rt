@@ -1,4 +1,6 @@
 // What EAX computes over what a cipher means, with its laws and some values worked by hand.
+#![tactic(auto)]
+
 pub mod laws;
 pub mod sum;
 pub mod table;

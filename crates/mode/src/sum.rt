@@ -5,7 +5,7 @@ use block::block::Block;
 
 // The order of the three does not matter.
 pub fn sum<B: Block>(a: B, b: B, c: B) -> B
-    ensures { AnyOrder form a b c result }
+    ensures { AnyOrder B.form a b c result }
 {
     a.xor(b).xor(c)
 }

@@ -1,4 +1,6 @@
 // Tests of blocks, of loading a key, and of EAX over whole strings.
+#![tactic(auto)]
+
 #[cfg(test)]
 mod blocks;
 #[cfg(test)]

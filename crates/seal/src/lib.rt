@@ -1,4 +1,6 @@
 // Sealing a record in pieces, stage by stage, and in one call.
+#![tactic(auto)]
+
 pub mod header;
 pub mod message;
 pub mod tag;

@@ -13,8 +13,8 @@ fits c =
     let bound = Fits-lt-pow c.ranges.number in
     replaced-lt c.args.number c.args.shift _ _ c.requires bound small c.unit-unit.ensures.value
 
-pub overflow-mul-result-2 : goal.overflow-mul-result-2
-overflow-mul-result-2 c = Fits-of_lt (omega (arith, fits c))
+pub overflow_mul-result-2 : goal.overflow_mul-result-2
+overflow_mul-result-2 c = Fits-of_lt (omega (arith, fits c))
 
-pub overflow-add-result-2 : goal.overflow-add-result-2
-overflow-add-result-2 c = Fits-of_lt (fits c)
+pub overflow_add-result-2 : goal.overflow_add-result-2
+overflow_add-result-2 c = Fits-of_lt (fits c)

@@ -15,7 +15,7 @@ walking-init c = begun _ _ (point_of c.new-walk.result) c.new-walk.ensures.value
 pub walking-smaller : goal.walking-smaller
 walking-smaller c =
     let w = point_of c.walking.walk in
-    let v = point_of c.next-frame.new.self in
+    let v = point_of c.next_frame.new.self in
     let f = handed_of c.in-Some.frame in
     let step = subst (λ r. Steps w r v) (ap (λ o. told (Ok o)) c.in-Some.is) c.in-Ok.ensures.step in
     omega (arith, shorter w.rest v.rest f.parts step.behind)
@@ -23,18 +23,18 @@ walking-smaller c =
 pub walking-preserved : goal.walking-preserved
 walking-preserved c =
     let w = point_of c.walking.walk in
-    let v = point_of c.next-frame.new.self in
+    let v = point_of c.next_frame.new.self in
     let call = c.in-Ok.ensures in
     let is = ap (λ o. told (Ok o)) c.in-Some.is in
-    let wrote = c.in-ok-write-line.ensures ∙ ap (λ l. string_bytes c.walking.text ++ line (line_text l)) c.of.ensures in
+    let wrote = c.in_ok-write_line.ensures ∙ ap (λ l. string_bytes c.walking.text ++ line (line_text l)) c.of.ensures in
     one_more c.walking.invariant _ v (handed_of c.in-Some.frame) (sym is ∙ call.value) call.after (subst (λ r. Steps w r v) is call.step) wrote
 
-pub returns-in-default : goal.returns-in-default
-returns-in-default c =
+pub returns-in_default : goal.returns-in_default
+returns-in_default c =
     let w = point_of c.walking.walk in
-    let v = point_of c.next-frame.new.self in
+    let v = point_of c.next_frame.new.self in
     let call = c.in-Ok.ensures in
-    let is = ap (λ o. told (Ok o)) c.in-default.is in
+    let is = ap (λ o. told (Ok o)) c.in_default.is in
     let step = subst (λ r. Steps w r v) is call.step in
     let count = sym (c.count.ensures ∙ ap (λ u. u.number) step.1) in
     let last = line (end_text c.count.result) in

@@ -7,35 +7,35 @@ use Rattle.listing.specs.Listing.{input_max, line, lines, listing, Lists}
 use Rattle.listing.proofs.Walked.{finished}
 use Rattle.listing.proofs.AllLines.{too_long, walked, whole_lines}
 use Rattle.listing.proofs.list.listing.Goals as goal
-use Rattle.listing.proofs.list.listing.Goals.{then-is-too-long, else-is-too-long+in-ok-ending}
+use Rattle.listing.proofs.list.listing.Goals.{then-is_too_long, else-is_too_long+in_ok-ending}
 
 pub returns : goal.returns
 returns c =
     let file = c.args.input.now in
-    let out = string_bytes c.write-line.new.text in
-    let ending = c.if-is-too-long.ending in
-    let wrote : out ≡ string_bytes c.if-is-too-long.text ++ line (ending_text ending) = c.in-ok-write-line.ensures in
+    let out = string_bytes c.write_line.new.text in
+    let ending = c.if-is_too_long.ending in
+    let wrote : out ≡ string_bytes c.if-is_too_long.text ++ line (ending_text ending) = c.in_ok-write_line.ensures in
     let both : (out ≡ listing file) × (length file ≤ input_max → Lists file out) =
-    elim c.if-is-too-long.branch [
-      | then-is-too-long w ↦ (
+    elim c.if-is_too_long.branch [
+      | then-is_too_long w ↦ (
         wrote
             ∙ ap (λ t. string_bytes t ++ line (ending_text ending)) w.text-is
             ∙ ap (λ bs. bs ++ line (ending_text ending)) c.new-text.ensures.bytes
             ∙ ap (λ e. line (ending_text e)) w.ending-is
-            ∙ sym (too_long file (sym c.is-too-long.ensures ∙ w.if-is-too-long.true)),
-        λ h. absurd (omega (arith, ltb-true input_max (length file) (sym c.is-too-long.ensures ∙ w.if-is-too-long.true))),
+            ∙ sym (too_long file (sym c.is_too_long.ensures ∙ w.if-is_too_long.true)),
+        λ h. absurd (omega (arith, ltb-true input_max (length file) (sym c.is_too_long.ensures ∙ w.if-is_too_long.true))),
       )
-      | else-is-too-long+in-ok-ending w ↦
-          let listed = w.in-ok-ending.ensures in
-          let text = string_bytes w.list-frames.new.text in
-          let said : out ≡ text ++ line (ending_text w.in-ok-ending.ending) =
+      | else-is_too_long+in_ok-ending w ↦
+          let listed = w.in_ok-ending.ensures in
+          let text = string_bytes w.list_frames.new.text in
+          let said : out ≡ text ++ line (ending_text w.in_ok-ending.ending) =
           wrote
           ∙ ap (λ t. string_bytes t ++ line (ending_text ending)) w.text-is
           ∙ ap (λ e. text ++ line (ending_text e)) w.ending-is in (
             said
                 ∙ listed.bytes
                 ∙ ap (λ bs. bs ++ lines (length file + 1) (start file)) c.new-text.ensures.bytes
-                ∙ sym (walked file (sym c.is-too-long.ensures ∙ w.if-is-too-long.false)),
+                ∙ sym (walked file (sym c.is_too_long.ensures ∙ w.if-is_too_long.false)),
             λ h. finished file out text _ listed.walks.0 _ said listed.walks.1 c.new-text.ensures.bytes listed.walks.2,
           )
     ] in

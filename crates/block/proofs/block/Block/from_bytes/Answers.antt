@@ -26,5 +26,5 @@ returns g c =
       places = λ j l.
           ap (λ b. byte_at form b j) value
           ∙ byte-block_of form g.met.Self.Block.lawful xs j l
-          ∙ mod-eq_of_lt (Fits-lt-pow (c.type-inv.bytes j));
+          ∙ mod-eq_of_lt (Fits-lt-pow (c.type_inv.bytes j));
     }

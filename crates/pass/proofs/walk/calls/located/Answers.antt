@@ -22,29 +22,29 @@ cases : (bs : List ℕ) (r : Result Last FrameFault)
 cases bs (Ok l) value small = rw (← value) at (last_read bs small)
 cases bs (Err e) value small = rw (← value) at (last_read bs small)
 
-pub returns-in-err-at : goal.returns-in-err-at
+pub returns-in_err-at : goal.returns-in_err-at
 unfolding last_of
-returns-in-err-at c =
+returns-in_err-at c =
     let bs = c.args.bytes.now in
-    let x = c.in-err-at.field-0.0 in
-    let e = err_from_is_err_and c.from-residual.result c.from-residual.ensures.1 in
-    let d = placed_err c.last-frame.result _ x (sym c.in-err-at.ensures) in
-    let value : cut_in c.from-residual.result ≡ last_of bs =
+    let x = c.in_err-at.field-0.0 in
+    let e = err_from_is_err_and c.from_residual.result c.from_residual.ensures.1 in
+    let d = placed_err c.last_frame.result _ x (sym c.in_err-at.ensures) in
+    let value : cut_in c.from_residual.result ≡ last_of bs =
     ap cut_in (e.1 ∙ ap Err e.2)
-    ∙ ap (λ p. Err (record { cause = x.0; place = p })) (sym d.1 ∙ c.trailer-place.ensures)
-    ∙ ap (locate (length bs)) (ap cut_in (sym d.0) ∙ c.last-frame.ensures) in
+    ∙ ap (λ p. Err (record { cause = x.0; place = p })) (sym d.1 ∙ c.trailer_place.ensures)
+    ∙ ap (locate (length bs)) (ap cut_in (sym d.0) ∙ c.last_frame.ensures) in
     record {
       value = value;
-      cases = cases bs c.from-residual.result value (λ i. Fits-lt-pow (c.type-inv.bytes i));
-      shorter = IfOk-from_err c.from-residual.result _ c.from-residual.ensures.0;
+      cases = cases bs c.from_residual.result value (λ i. Fits-lt-pow (c.type_inv.bytes i));
+      shorter = IfOk-from_err c.from_residual.result _ c.from_residual.ensures.0;
     }
 
 pub returns : goal.returns
 unfolding last_of
 returns c =
     let bs = c.args.bytes.now in
-    let l = c.in-ok-at.field-0 in
-    let found = placed_ok c.last-frame.result _ l (sym c.in-ok-at.ensures) in
-    let value : cut_in (Ok l) ≡ last_of bs = ap (locate (length bs)) (ap cut_in (sym found) ∙ c.last-frame.ensures) in
-    let there = cases bs (Ok l) value (λ i. Fits-lt-pow (c.type-inv.bytes i)) in
+    let l = c.in_ok-at.field-0 in
+    let found = placed_ok c.last_frame.result _ l (sym c.in_ok-at.ensures) in
+    let value : cut_in (Ok l) ≡ last_of bs = ap (locate (length bs)) (ap cut_in (sym found) ∙ c.last_frame.ensures) in
+    let there = cases bs (Ok l) value (λ i. Fits-lt-pow (c.type_inv.bytes i)) in
     record { value = value; cases = there; shorter = shorter bs l.rest.now (parts_of l.content) there }
