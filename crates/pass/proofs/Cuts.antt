@@ -1,6 +1,6 @@
 -- The parts that a trailer points back over, joined again, are the bytes that they were cut from, and have the lengths
 -- that the trailer tells.
-use Rattle.std.proofs.Common.{◌≡◌, ℕ, ◌+◌, ◌-◌, ◌<◌, ◌≤◌, Bool, true, false, cond, ◌&&◌, eqb, leb, List, [], ◌++◌, length, get_or, take, drop, IfErr, Ok, Err, Result, sym, refl, ap, ◌∙◌, append_assoc, arith, MatchResult}
+use Rattle.std.proofs.Common.{◌≡◌, ℕ, ◌-◌, ◌<◌, ◌≤◌, Bool, true, false, cond, ◌&&◌, eqb, leb, List, [], ◌++◌, length, get_or, take, drop, IfErr, Ok, Err, Result, sym, refl, ap, ◌∙◌, append_assoc, arith, MatchResult}
 use Rattle.std.proofs.lemmas.List.{length-take, length-drop, take-append-drop, take_all, drop_all}
 use Rattle.std.proofs.lemmas.Bool.{and_parts, eqb-true, cond-true, le-leb, leb-true, leb-false}
 use Rattle.wire.specs.declared.fault.Cause.{Cause}
