@@ -6,7 +6,7 @@ ghost use Rattle.std.proofs.Common.{rules};
 
 use crate::cipher::Cipher;
 use crate::load::Keyed;
-use block::block::{Block, Block as _};
+use block::block::Block;
 use block::block8::Block8;
 
 #[derive(Drop)]

@@ -44,7 +44,7 @@ fn sealed(rt: HostRuntime) -> Result<(), Fail> {
 fn verdict(rt: &impl Abort, eax: &Eax<'_, Wide>, header: &[u8], tag: &[u8]) -> Result<u8, Fail> {
     match eax.open(NONCE, header, CIPHERTEXT, tag)? {
         Ok(message) => {
-            assert_eq!(rt; message.as_slice(), &[0; 17]);
+            assert_eq!(rt; message.as_slice(), [0; 17].as_slice());
             Ok(0)
         }
         Err(fault) => Ok(fault.number()),

@@ -4,7 +4,7 @@ ghost use Rattle.block.specs.Blocks.{xored, following, block_of};
 ghost use Rattle.block.specs.Kinds.{form16};
 ghost use Rattle.std.proofs.Common.{rules};
 
-use block::block::{Block, Block as _};
+use block::block::Block;
 use block::block16::Block16;
 use cipher::cipher::Cipher;
 use cipher::load::Keyed;
