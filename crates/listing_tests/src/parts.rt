@@ -28,10 +28,10 @@ fn sealed_parts(rt: HostRuntime) -> Result<(), Fail> {
         return Err(Fail::new("not sealed"));
     };
     assert_eq!(rt; suite, Suite::Bench);
-    assert_eq!(rt; nonce, &[0xAA]);
-    assert_eq!(rt; header, &[0xBB]);
-    assert_eq!(rt; body, &[0xFF]);
-    assert_eq!(rt; tag, &[1, 2, 3, 4]);
+    assert_eq!(rt; nonce, [0xAA].as_slice());
+    assert_eq!(rt; header, [0xBB].as_slice());
+    assert_eq!(rt; body, [0xFF].as_slice());
+    assert_eq!(rt; tag, [1, 2, 3, 4].as_slice());
     assert_eq!(rt; (frame.number(), frame.place(), frame.len()), (0, 10, 15));
     Ok(())
 }
@@ -45,7 +45,7 @@ fn idle_fill(rt: HostRuntime) -> Result<(), Fail> {
     let Content::Idle { fill } = frame.content() else {
         return Err(Fail::new("not idle"));
     };
-    assert_eq!(rt; fill, &[0x55, 0x56]);
+    assert_eq!(rt; fill, [0x55, 0x56].as_slice());
     assert!(rt;
         matches!(walk.next_frame(), Ok(None)),
         "none at the file's start"
