@@ -1,7 +1,6 @@
 -- A chain comes to CMAC: fed a string it holds CBC of all blocks but the last, and the last block; finishing pads that one.
-use Rattle.std.proofs.Common.{◌≡◌, ℕ, zero, suc, ◌+◌, ◌-◌, ◌*◌, ◌/◌, ◌%◌, ◌<◌, ◌≤◌, true, false, ◌&&◌, eqb, ltb, ◌⊎◌, List, [], ◌∷◌, ◌++◌, length, take, drop, sym, refl, ap, ◌∙◌, ap₂, ⊎_elim, mod-lt, suc-mul, zero-mul, mul-div_cancel, arith}
-use native.Mathlib.Nat.{zero-div}
-use Rattle.std.proofs.lemmas.List.{take-append-drop, length-take-le, length-drop, take_all, drop-drop, drop-take, drop-append-le, get_or-take, get_or_append_left, drop_all, take-append-le, length-append, length-replicate}
+use Rattle.std.proofs.Common.{◌≡◌, ℕ, zero, suc, ◌+◌, ◌-◌, ◌*◌, ◌/◌, ◌%◌, ◌<◌, ◌≤◌, true, false, ◌&&◌, eqb, ltb, List, [], ◌∷◌, ◌++◌, length, take, drop, sym, refl, ap, ◌∙◌, ap₂, ⊎_elim, mod-lt, suc-mul, zero-mul, mul-div_cancel, arith}
+use Rattle.std.proofs.lemmas.List.{take-append-drop, length-take-le, length-drop, drop-drop, drop-take, drop-append-le, get_or-take, get_or_append_left, take-append-le, length-append, length-replicate}
 use Rattle.std.proofs.lemmas.Bool.{cond-true, cond-false, lt-ltb, le-ltb, ltb-true, ltb-false, eqb-true, eqb-false, cases_Bool, cases_order, and_parts, and_cases}
 use Rattle.std.proofs.lemmas.Nat.{div-add-mod'}
 use Rattle.block.specs.Form.{Form}

@@ -5,7 +5,7 @@ use Rattle.std.proofs.lemmas.List.{append_assoc, get_or_append_left, get_or-appe
 use Rattle.std.proofs.lemmas.Bool.{cases_lt}
 use Rattle.block.specs.Form.{Form}
 use Rattle.block.specs.Lawful.{Lawful}
-use Rattle.block.specs.Blocks.{zero_block, with_byte_at, bytes_of, put_from, block_of}
+use Rattle.block.specs.Blocks.{zero_block, with_byte_at, put_from, block_of}
 use Rattle.block.proofs.Bytes.{length-bytes, get_or-bytes, byte-block_of, by_bytes}
 
 -- past its end a string reads as 00, so 00 after it changes no byte

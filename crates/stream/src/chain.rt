@@ -15,7 +15,7 @@ pub struct Chain<B> {
 
 impl<B: Block> Chain<B> {
     pub fn new() -> Chain<B>
-        ensures { result ≡ blank form }
+        ensures { result ≡ blank B.form }
     {
         Chain {
             sum: B::zero(),
@@ -26,7 +26,7 @@ impl<B: Block> Chain<B> {
 
     // A chain that was fed one block.
     pub fn holding(block: B) -> Chain<B>
-        ensures { result ≡ holding form block }
+        ensures { result ≡ holding B.form block }
     {
         Chain {
             sum: B::zero(),
@@ -36,7 +36,7 @@ impl<B: Block> Chain<B> {
     }
 
     pub fn feed<C: Cipher<Block = B>>(&mut self, cipher: &C, piece: &[u8])
-        ensures { self.new ≡ fed form (f cipher.now) self.old piece.now }
+        ensures { self.new ≡ fed B.form (C.f cipher.now) self.old piece.now }
     {
         for byte in piece {
             self.push(cipher, *byte);
@@ -44,7 +44,7 @@ impl<B: Block> Chain<B> {
     }
 
     pub fn finish<C: Cipher<Block = B>>(self, cipher: &C) -> B
-        ensures { result ≡ finished form (f cipher.now) self }
+        ensures { result ≡ finished B.form (C.f cipher.now) self }
     {
         let two_l = cipher.encrypt(B::ending(0)).double();
         let last = if self.count < B::width() {
@@ -56,7 +56,7 @@ impl<B: Block> Chain<B> {
     }
 
     fn push<C: Cipher<Block = B>>(&mut self, cipher: &C, byte: u8)
-        ensures { self.new ≡ pushed form (f cipher.now) self.old byte }
+        ensures { self.new ≡ pushed B.form (C.f cipher.now) self.old byte }
     {
         if self.count >= B::width() {
             self.sum = cipher.encrypt(self.sum.xor(self.held));

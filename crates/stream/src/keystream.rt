@@ -15,7 +15,7 @@ pub struct Keystream<B> {
 
 impl<B: Block> Keystream<B> {
     pub fn starting_at(counter: B) -> Keystream<B>
-        ensures { result ≡ starting_at form counter }
+        ensures { result ≡ starting_at B.form counter }
     {
         Keystream {
             counter,
@@ -26,8 +26,8 @@ impl<B: Block> Keystream<B> {
 
     // Xors the next bytes into a text, in place.
     pub fn apply<C: Cipher<Block = B>>(&mut self, cipher: &C, text: &mut [u8])
-        ensures value { text.new ≡ enciphered form (f cipher.now) self.old text.old }
-        ensures after { self.new ≡ advanced form (f cipher.now) self.old text.old }
+        ensures value { text.new ≡ enciphered B.form (C.f cipher.now) self.old text.old }
+        ensures after { self.new ≡ advanced B.form (C.f cipher.now) self.old text.old }
     {
         for byte in text.iter_mut() {
             *byte = self.encipher(cipher, *byte);
@@ -35,8 +35,8 @@ impl<B: Block> Keystream<B> {
     }
 
     fn encipher<C: Cipher<Block = B>>(&mut self, cipher: &C, byte: u8) -> u8
-        ensures value { result ≡ bit_xor byte (next_byte form (f cipher.now) self.old) }
-        ensures after { self.new ≡ stepped form (f cipher.now) self.old }
+        ensures value { result ≡ bit_xor byte (next_byte B.form (C.f cipher.now) self.old) }
+        ensures after { self.new ≡ stepped B.form (C.f cipher.now) self.old }
     {
         if self.used >= B::width() {
             self.mask = cipher.encrypt(self.counter);

@@ -5,10 +5,10 @@ use block::block::Block;
 
 // A chain comes to CMAC, or OMAC after a tweak, however the string is cut.
 pub fn chain_is_cmac<B: Block>()
-    ensures { (F : B → B) → Chains form F }
+    ensures { (F : B → B) → Chains B.form F }
 {}
 
 // The keystream gives CTR, however the string is cut.
 pub fn keystream_is_ctr<B: Block>()
-    ensures { (F : B → B) → Counts form F }
+    ensures { (F : B → B) → Counts B.form F }
 {}

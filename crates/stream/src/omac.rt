@@ -8,7 +8,7 @@ use crate::tweak::Tweak;
 use cipher::cipher::Cipher;
 
 pub fn omac<C: Cipher>(cipher: &C, tweak: Tweak, string: &[u8]) -> C::Block
-    ensures { result ≡ omac_of C.Block.Block.form (f cipher.now) (tweak_number tweak) string.now }
+    ensures { result ≡ omac_of C.Block.Block.form (C.f cipher.now) (tweak_number tweak) string.now }
 {
     let mut chain = Chain::holding(tweak.block());
     chain.feed(cipher, string);

@@ -14,7 +14,7 @@ pub enum Tweak {
 
 impl Tweak {
     pub fn block<B: Block>(self) -> B
-        ensures { result ≡ end_block form (tweak_number self) }
+        ensures { result ≡ end_block B.form (tweak_number self) }
     {
         B::ending(match self {
             Tweak::Nonce => 0,

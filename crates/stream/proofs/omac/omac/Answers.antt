@@ -7,10 +7,10 @@ use Rattle.stream.proofs.omac.omac.Goals as goal
 
 pub returns : goal.returns
 returns g c =
-    let form = g.Block.Block.form in
+    let form = g.C.Block.Block.form in
     let F = g.C.Cipher.f c.args.cipher.now in
     let X = c.args.string.now in
     c.finish.ensures
     ∙ ap (finished form F) c.feed.ensures
     ∙ ap (λ k. finished form F (fed form F k X)) (c.holding-chain.ensures ∙ ap (holding form) c.block.ensures)
-    ∙ (chains form g.met.Block.Block.lawful F).tweaked (tweak_number c.args.tweak) X
+    ∙ (chains form g.met.C.Block.Block.lawful F).tweaked (tweak_number c.args.tweak) X

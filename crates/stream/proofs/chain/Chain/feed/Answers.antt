@@ -1,5 +1,5 @@
 -- Each turn pushes one byte.
-use Rattle.std.proofs.Common.{sym, ap, ◌∙◌, rules}
+use Rattle.std.proofs.Common.{sym, ◌∙◌}
 use Rattle.std.proofs.lemmas.List.{at_drop_more, at_drop_all}
 use Rattle.stream.specs.Chaining.{fed}
 use Rattle.stream.proofs.chain.Chain.feed.Goals as goal
