@@ -1,5 +1,5 @@
 -- The header of a record is that of the accepted pieces joined: its chain was fed them, and its count is their length.
-use Rattle.std.proofs.Common.{◌≡◌, ℕ, ◌+◌, List, [], length, Ok, Err, Result, sym, refl, ap, ◌∙◌, ap₂}
+use Rattle.std.proofs.Common.{◌≡◌, ℕ, List, [], length, Ok, Err, Result, sym, refl, ◌∙◌, ap₂}
 use Rattle.std.proofs.lemmas.List.{length-append}
 use Rattle.wire.specs.declared.fault.RecordFault.{RecordFault}
 use Rattle.block.specs.Form.{Form}
@@ -21,9 +21,9 @@ module _ {B : Type 0} (form : Form B) (F : B → B) where
   none_yet = refl
 
   module _ (lawful : Lawful form) where
-    pub header_block : (H : List ℕ) → ended form F (header_of H) ≡ header_block form F H
+    pub header_block_lem : (H : List ℕ) → ended form F (header_of H) ≡ header_block form F H
     unfolding header_block
-    header_block H = (chains form lawful F).tweaked 1 H
+    header_block_lem H = (chains form lawful F).tweaked 1 H
 
     pub after_join : (H piece : List ℕ) (r : Result ℕ RecordFault) (after : Header B)
         → Joins form F (header_of H) piece r after

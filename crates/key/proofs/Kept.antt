@@ -1,6 +1,6 @@
 -- Whatever calls a key has seen, it holds the cipher it was made from and the H-block of the header last prepared: one
 -- induction over the calls.
-use Rattle.std.proofs.Common.{◌≡◌, ℕ, List, Ok, Err, Result, refl, ap, ◌∙◌}
+use Rattle.std.proofs.Common.{◌≡◌, ℕ, List, Ok, Err, Result, ap, ◌∙◌}
 use Rattle.wire.specs.declared.fault.RecordFault.{RecordFault}
 use Rattle.block.specs.Form.{Form}
 use Rattle.mode.specs.Strings.{header_block}

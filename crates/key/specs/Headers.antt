@@ -1,5 +1,5 @@
 -- The header of a record, joined from pieces. Assumes nothing.
-use Rattle.std.specs.Prelude.{◌≡◌, ℕ, ◌+◌, ◌<◌, ◌≤◌, List, [], ◌++◌, length, Ok, Err, Result}
+use Rattle.std.specs.Prelude.{◌≡◌, ℕ, ◌+◌, ◌<◌, ◌≤◌, List, ◌++◌, length, Ok, Err, Result}
 use Rattle.wire.specs.Faults.{record_number}
 use Rattle.wire.specs.Limits.{header_max}
 use Rattle.wire.specs.declared.fault.RecordFault.{RecordFault}

@@ -18,7 +18,7 @@ pub struct Header<B> {
 
 impl<B: Block> Header<B> {
     pub fn new() -> Header<B>
-        ensures { result ≡ no_header form }
+        ensures { result ≡ no_header B.form }
     {
         Header {
             chain: Chain::holding(Tweak::Header.block()),
@@ -32,7 +32,7 @@ impl<B: Block> Header<B> {
         cipher: &C,
         piece: &[u8],
     ) -> Result<usize, RecordFault>
-        ensures step { Joins form (f cipher.now) self.old piece.now result self.new }
+        ensures step { Joins B.form (C.f cipher.now) self.old piece.now result self.new }
     {
         let Some(count) = grown(self.count, piece.len(), HEADER_MAX) else {
             return Err(RecordFault::HeaderTooLong);
@@ -44,7 +44,7 @@ impl<B: Block> Header<B> {
 
     // The H-block.
     pub fn end<C: Cipher<Block = B>>(self, cipher: &C) -> B
-        ensures { result ≡ ended form (f cipher.now) self }
+        ensures { result ≡ ended B.form (C.f cipher.now) self }
     {
         let Header { chain, count: _ } = self;
         chain.finish(cipher)

@@ -17,8 +17,8 @@ pub struct Key<C: Cipher> {
 impl<C: Cipher> Key<C> {
     // Takes a cipher in; the empty header is prepared.
     pub fn new(cipher: C) -> Key<C>
-        ensures step { Made Block-as-Block.form f cipher result }
-        ensures run { Keys Block-as-Block.form f cipher [] result }
+        ensures step { Made C.Block.form C.f cipher result }
+        ensures run { Keys C.Block.form C.f cipher [] result }
     {
         let prepared = Header::new().end(&cipher);
         Key { cipher, prepared }
@@ -26,8 +26,8 @@ impl<C: Cipher> Key<C> {
 
     // Prepares a whole header, and answers its length.
     pub fn prepare(&mut self, header: &[u8]) -> Result<usize, RecordFault>
-        ensures step { Prepares Block-as-Block.form f self.old header.now result self.new }
-        ensures run { (cipher : C) (last : List ℕ) → Keys Block-as-Block.form f cipher last self.old → Keys Block-as-Block.form f cipher (last_of last header.now result) self.new }
+        ensures step { Prepares C.Block.form C.f self.old header.now result self.new }
+        ensures run { (cipher : C) (last : List ℕ) → Keys C.Block.form C.f cipher last self.old → Keys C.Block.form C.f cipher (last_of last header.now result) self.new }
     {
         let mut whole = Header::new();
         let count = whole.join(&self.cipher, header)?;
@@ -52,7 +52,7 @@ impl<C: Cipher> Key<C> {
     // Gives the cipher back.
     pub fn into_cipher(self) -> C
         ensures value { result ≡ self.cipher }
-        ensures run { (cipher : C) (last : List ℕ) → Keys C.Block.Block.form f cipher last self → result ≡ cipher }
+        ensures run { (cipher : C) (last : List ℕ) → Keys C.Block.form C.f cipher last self → result ≡ cipher }
     {
         let Key {
             cipher,

@@ -7,5 +7,5 @@ pub returns : goal.returns
 returns g c =
     record {
       value = refl;
-      run = λ cipher last run. (kept g.Block.Block.form g.C.Cipher.f cipher last c.args.self run).same;
+      run = λ cipher last run. (kept g.C.Block.Block.form g.C.Cipher.f cipher last c.args.self run).same;
     }
