@@ -1,6 +1,6 @@
 -- What a stage holds after every run that leads to it, and the rule: one induction over the calls, by the laws of the
 -- streams.
-use Rattle.std.proofs.Common.{◌≡◌, ℕ, ◌+◌, ◌≤◌, true, leb, List, [], ◌∷◌, ◌++◌, length, take, Ok, Err, Result, sym, refl, ap, ◌∙◌, ap₂, arith}
+use Rattle.std.proofs.Common.{◌≡◌, ℕ, ◌+◌, ◌≤◌, List, [], ◌++◌, length, take, Ok, Err, Result, sym, refl, ap, ◌∙◌, ap₂, arith}
 use Rattle.std.proofs.lemmas.List.{length-append, length-take-le, take_at}
 use Rattle.std.proofs.lemmas.Bool.{and_parts, leb-true}
 use Rattle.wire.specs.Limits.{is_tag_len_of}
@@ -19,9 +19,9 @@ use Rattle.stream.proofs.Counting.{counts, length-enciphered}
 use Rattle.key.specs.Headers.{joined, ended}
 use Rattle.key.specs.Runs.{Keys, served}
 use Rattle.key.specs.declared.key.Key.{Key}
-use Rattle.key.proofs.Joining.{header_of, none_yet, header_block, after_join}
+use Rattle.key.proofs.Joining.{header_of, none_yet, header_block_lem, after_join}
 use Rattle.key.proofs.Kept.{kept}
-use Rattle.seal.specs.Steps.{Joining, NoMessage, Sealing, Sealed, Tagging}
+use Rattle.seal.specs.Steps.{Joining, NoMessage, Sealing, Tagging}
 use Rattle.seal.specs.Runs.{AtHeader, begun, pieced, AtMessage, begun_prepared, left, sealed, AtTag, closed, tagged}
 use Rattle.seal.specs.Runs.{Ended, GivenBack, AllTags, Faithful, with_tag, HeaderAnswer, MessageAnswer}
 use Rattle.stream.specs.declared.keystream.Keystream.{Keystream}
@@ -144,7 +144,7 @@ module _ {C B : Type 0} (form : Form B) (lawful : Lawful form) (F : C → B → 
       no_message nonce header _ _ s.key t
       h.on
       h.block
-      (ap₂ (λ c x. ended form (F c) x) (of s.key h.on) h.held ∙ header_block form (F cipher) lawful header)
+      (ap₂ (λ c x. ended form (F c) x) (of s.key h.on) h.held ∙ header_block_lem form (F cipher) lawful header)
       p
   message_held nonce header message ciphertext t (sealed {message = M} {ciphertext = X} {s = s} run piece string out filled r p) =
       after_piece nonce header M X s t piece string out filled r p (message_held nonce header M X s run)
@@ -198,7 +198,7 @@ module _ {C B : Type 0} (form : Form B) (lawful : Lawful form) (F : C → B → 
       → AllTags form F cipher nonce header ciphertext (with_tag tags filled r)
   unfolding tag_of
   more_tags nonce header message ciphertext tags t out filled (Ok n) h p all =
-      let short : length out ≤ form.size = leb-true _ _ (and_parts _ _ p.fits).1 in
+      let short : length out ≤ form.size = leb-true (length out) form.size (and_parts _ _ p.fits).1 in
       let long : length filled ≡ length out =
       ap length p.put ∙ length-take-le (length out) _ (omega (arith, length-bytes form lawful t.block)) in (
         ap (is_tag_len_of form.size) long ∙ p.fits,

@@ -24,8 +24,8 @@ pub struct HeaderStage<C: Cipher> {
 impl<C: Cipher> HeaderStage<C> {
     // The plain start of a record, which takes the key in.
     pub fn start(key: Key<C>, nonce: &[u8]) -> HeaderStage<C>
-        ensures step { Begins Block-as-Block.form f key nonce.now result }
-        ensures run { (cipher : C) (last : List ℕ) → Keys Block-as-Block.form f cipher last key → AtHeader Block-as-Block.form f cipher last key nonce.now [] result }
+        ensures step { Begins C.Block.form C.f key nonce.now result }
+        ensures run { (cipher : C) (last : List ℕ) → Keys C.Block.form C.f cipher last key → AtHeader C.Block.form C.f cipher last key nonce.now [] result }
     {
         let nonce = omac(key.cipher(), Tweak::Nonce, nonce);
         HeaderStage {
@@ -37,17 +37,17 @@ impl<C: Cipher> HeaderStage<C> {
 
     // Joins a piece to the header, and answers the header's length so far.
     pub fn piece(&mut self, piece: &[u8]) -> Result<usize, RecordFault>
-        ensures step { Joining Block-as-Block.form f self.old piece.now result self.new }
-        ensures run { (cipher : C) (last : List ℕ) (key : KeyOf C C.Block) (nonce header : List ℕ) → AtHeader C.Block.Block.form f cipher last key nonce header self.old → AtHeader C.Block.Block.form f cipher last key nonce (joined header piece.now result) self.new }
-        ensures answer { (cipher : C) (last : List ℕ) (key : KeyOf C C.Block) (nonce header : List ℕ) → AtHeader C.Block.Block.form f cipher last key nonce header self.old → HeaderAnswer header piece.now result }
+        ensures step { Joining C.Block.form C.f self.old piece.now result self.new }
+        ensures run { (cipher : C) (last : List ℕ) (key : KeyOf C C.Block) (nonce header : List ℕ) → AtHeader C.Block.form C.f cipher last key nonce header self.old → AtHeader C.Block.form C.f cipher last key nonce (joined header piece.now result) self.new }
+        ensures answer { (cipher : C) (last : List ℕ) (key : KeyOf C C.Block) (nonce header : List ℕ) → AtHeader C.Block.form C.f cipher last key nonce header self.old → HeaderAnswer header piece.now result }
     {
         self.header.join(self.key.cipher(), piece)
     }
 
     // The header is whole: on to the message.
     pub fn leave(self) -> MessageStage<C>
-        ensures step { Leaves C.Block.Block.form f self result }
-        ensures run { (cipher : C) (last : List ℕ) (key : KeyOf C C.Block) (nonce header : List ℕ) → AtHeader C.Block.Block.form f cipher last key nonce header self → AtMessage C.Block.Block.form f cipher last key nonce header [] [] result }
+        ensures step { Leaves C.Block.form C.f self result }
+        ensures run { (cipher : C) (last : List ℕ) (key : KeyOf C C.Block) (nonce header : List ℕ) → AtHeader C.Block.form C.f cipher last key nonce header self → AtMessage C.Block.form C.f cipher last key nonce header [] [] result }
     {
         let HeaderStage { key, nonce, header } = self;
         let header = header.end(key.cipher());
@@ -57,7 +57,7 @@ impl<C: Cipher> HeaderStage<C> {
     // Gives the record up, and the key back.
     pub fn abandon(self) -> Key<C>
         ensures value { result ≡ self.key }
-        ensures run { (cipher : C) (last : List ℕ) (key : KeyOf C C.Block) (nonce header : List ℕ) → AtHeader C.Block.Block.form f cipher last key nonce header self → GivenBack C.Block.Block.form f cipher last key result }
+        ensures run { (cipher : C) (last : List ℕ) (key : KeyOf C C.Block) (nonce header : List ℕ) → AtHeader C.Block.form C.f cipher last key nonce header self → GivenBack C.Block.form C.f cipher last key result }
     {
         let HeaderStage {
             key,

@@ -32,8 +32,8 @@ pub struct MessageStage<C: Cipher> {
 impl<C: Cipher> MessageStage<C> {
     // The prepared start of a record, which takes the key in: its header is the one that the key last prepared.
     pub fn start(key: Key<C>, nonce: &[u8]) -> MessageStage<C>
-        ensures step { BeginsPrepared Block-as-Block.form f key nonce.now result }
-        ensures run { (cipher : C) (last : List ℕ) → Keys Block-as-Block.form f cipher last key → AtMessage Block-as-Block.form f cipher last key nonce.now last [] [] result }
+        ensures step { BeginsPrepared C.Block.form C.f key nonce.now result }
+        ensures run { (cipher : C) (last : List ℕ) → Keys C.Block.form C.f cipher last key → AtMessage C.Block.form C.f cipher last key nonce.now last [] [] result }
     {
         let nonce = omac(key.cipher(), Tweak::Nonce, nonce);
         let header = key.prepared();
@@ -41,7 +41,7 @@ impl<C: Cipher> MessageStage<C> {
     }
 
     pub(crate) fn new(key: Key<C>, nonce: C::Block, header: C::Block) -> MessageStage<C>
-        ensures { NoMessage C.Block.Block.form f key nonce header result }
+        ensures { NoMessage C.Block.form C.f key nonce header result }
     {
         MessageStage {
             key,
@@ -55,10 +55,10 @@ impl<C: Cipher> MessageStage<C> {
 
     // Puts the ciphertext of a piece at the front of a buffer, and answers the message's length so far.
     pub fn piece(&mut self, piece: &[u8], out: &mut [u8]) -> Result<usize, RecordFault>
-        ensures step { Sealing C.Block.Block.form f self.old piece.now out.old result self.new out.new }
-        ensures run { (cipher : C) (last : List ℕ) (key : KeyOf C C.Block) (nonce header message ciphertext : List ℕ) → AtMessage C.Block.Block.form f cipher last key nonce header message ciphertext self.old → AtMessage C.Block.Block.form f cipher last key nonce header (joined message piece.now result) (joined ciphertext (take (length piece.now) out.new) result) self.new }
-        ensures answer { (cipher : C) (last : List ℕ) (key : KeyOf C C.Block) (nonce header message ciphertext : List ℕ) → AtMessage C.Block.Block.form f cipher last key nonce header message ciphertext self.old → MessageAnswer message piece.now out.old result }
-        ensures rule { (cipher : C) (last : List ℕ) (key : KeyOf C C.Block) (nonce header message ciphertext : List ℕ) → AtMessage C.Block.Block.form f cipher last key nonce header message ciphertext self.old → Faithful C.Block.Block.form f cipher nonce header (joined message piece.now result) (joined ciphertext (take (length piece.now) out.new) result) [] }
+        ensures step { Sealing C.Block.form C.f self.old piece.now out.old result self.new out.new }
+        ensures run { (cipher : C) (last : List ℕ) (key : KeyOf C C.Block) (nonce header message ciphertext : List ℕ) → AtMessage C.Block.form C.f cipher last key nonce header message ciphertext self.old → AtMessage C.Block.form C.f cipher last key nonce header (joined message piece.now result) (joined ciphertext (take (length piece.now) out.new) result) self.new }
+        ensures answer { (cipher : C) (last : List ℕ) (key : KeyOf C C.Block) (nonce header message ciphertext : List ℕ) → AtMessage C.Block.form C.f cipher last key nonce header message ciphertext self.old → MessageAnswer message piece.now out.old result }
+        ensures rule { (cipher : C) (last : List ℕ) (key : KeyOf C C.Block) (nonce header message ciphertext : List ℕ) → AtMessage C.Block.form C.f cipher last key nonce header message ciphertext self.old → Faithful C.Block.form C.f cipher nonce header (joined message piece.now result) (joined ciphertext (take (length piece.now) out.new) result) [] }
     {
         if out.len() < piece.len() {
             return Err(RecordFault::BufferTooShort);
@@ -76,8 +76,8 @@ impl<C: Cipher> MessageStage<C> {
 
     // The message is whole: on to the tag.
     pub fn close(self) -> TagStage<C>
-        ensures step { Closes C.Block.Block.form f self result }
-        ensures run { (cipher : C) (last : List ℕ) (key : KeyOf C C.Block) (nonce header message ciphertext : List ℕ) → AtMessage C.Block.Block.form f cipher last key nonce header message ciphertext self → AtTag C.Block.Block.form f cipher last key nonce header message ciphertext [] result }
+        ensures step { Closes C.Block.form C.f self result }
+        ensures run { (cipher : C) (last : List ℕ) (key : KeyOf C C.Block) (nonce header message ciphertext : List ℕ) → AtMessage C.Block.form C.f cipher last key nonce header message ciphertext self → AtTag C.Block.form C.f cipher last key nonce header message ciphertext [] result }
     {
         let MessageStage {
             key,
@@ -97,7 +97,7 @@ impl<C: Cipher> MessageStage<C> {
     // Gives the record up, and the key back.
     pub fn abandon(self) -> Key<C>
         ensures value { result ≡ self.key }
-        ensures run { (cipher : C) (last : List ℕ) (key : KeyOf C C.Block) (nonce header message ciphertext : List ℕ) → AtMessage C.Block.Block.form f cipher last key nonce header message ciphertext self → GivenBack C.Block.Block.form f cipher last key result }
+        ensures run { (cipher : C) (last : List ℕ) (key : KeyOf C C.Block) (nonce header message ciphertext : List ℕ) → AtMessage C.Block.form C.f cipher last key nonce header message ciphertext self → GivenBack C.Block.form C.f cipher last key result }
     {
         let MessageStage {
             key,

@@ -19,9 +19,9 @@ pub struct TagStage<C: Cipher> {
 impl<C: Cipher> TagStage<C> {
     // Fills the buffer with the tag of that length, and answers the length.
     pub fn tag(&self, out: &mut [u8]) -> Result<usize, RecordFault>
-        ensures step { Tagging Block-as-Block.form f self.now out.old result out.new }
-        ensures run { (cipher : C) (last : List ℕ) (key : KeyOf C C.Block) (nonce header message ciphertext : List ℕ) (tags : List (List ℕ)) → AtTag C.Block.Block.form f cipher last key nonce header message ciphertext tags self.now → AtTag C.Block.Block.form f cipher last key nonce header message ciphertext (with_tag tags out.new result) self.now }
-        ensures rule { (cipher : C) (last : List ℕ) (key : KeyOf C C.Block) (nonce header message ciphertext : List ℕ) (tags : List (List ℕ)) → AtTag C.Block.Block.form f cipher last key nonce header message ciphertext tags self.now → Faithful C.Block.Block.form f cipher nonce header message ciphertext (with_tag tags out.new result) }
+        ensures step { Tagging C.Block.form C.f self.now out.old result out.new }
+        ensures run { (cipher : C) (last : List ℕ) (key : KeyOf C C.Block) (nonce header message ciphertext : List ℕ) (tags : List (List ℕ)) → AtTag C.Block.form C.f cipher last key nonce header message ciphertext tags self.now → AtTag C.Block.form C.f cipher last key nonce header message ciphertext (with_tag tags out.new result) self.now }
+        ensures rule { (cipher : C) (last : List ℕ) (key : KeyOf C C.Block) (nonce header message ciphertext : List ℕ) (tags : List (List ℕ)) → AtTag C.Block.form C.f cipher last key nonce header message ciphertext tags self.now → Faithful C.Block.form C.f cipher nonce header message ciphertext (with_tag tags out.new result) }
     {
         if !is_tag_len(C::Block::width(), out.len()) {
             return Err(RecordFault::TagLength);
@@ -35,7 +35,7 @@ impl<C: Cipher> TagStage<C> {
     // Ends the record, and gives the key back.
     pub fn end(self) -> Key<C>
         ensures value { result ≡ self.key }
-        ensures run { (cipher : C) (last : List ℕ) (key : KeyOf C C.Block) (nonce header message ciphertext : List ℕ) (tags : List (List ℕ)) → AtTag C.Block.Block.form f cipher last key nonce header message ciphertext tags self → GivenBack C.Block.Block.form f cipher last key result }
+        ensures run { (cipher : C) (last : List ℕ) (key : KeyOf C C.Block) (nonce header message ciphertext : List ℕ) (tags : List (List ℕ)) → AtTag C.Block.form C.f cipher last key nonce header message ciphertext tags self → GivenBack C.Block.form C.f cipher last key result }
     {
         let TagStage { key, block: _ } = self;
         key

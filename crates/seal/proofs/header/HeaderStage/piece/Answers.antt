@@ -7,8 +7,8 @@ use Rattle.seal.proofs.header.HeaderStage.piece.Goals as goal
 
 pub returns : goal.returns
 returns g c =
-    let form = g.Block.Block.form in
-    let lawful = g.met.Block.Block.lawful in
+    let form = g.C.Block.Block.form in
+    let lawful = g.met.C.Block.Block.lawful in
     let F = g.C.Cipher.f in
     let s = c.args.self.now in
     let X = c.args.piece.now in

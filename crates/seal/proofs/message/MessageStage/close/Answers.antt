@@ -6,5 +6,5 @@ use Rattle.seal.proofs.message.MessageStage.close.Goals as goal
 
 pub returns : goal.returns
 returns g c =
-    let step : Closes g.Block.Block.form g.C.Cipher.f c.args.self _ = search rules in
+    let step : Closes g.C.Block.Block.form g.C.Cipher.f c.args.self _ = search rules in
     record { step = step; run = λ cipher last key nonce header message ciphertext run. closed run step }

@@ -20,7 +20,7 @@ module _ {C B : Type 0} (form : Form B) (lawful : Lawful form) (F : C → B → 
     (string : IsString piece) (out filled : List ℕ) (r : Result ℕ RecordFault) (step : Sealing form F s piece out r t filled)
     (cipher : C) (last : List ℕ) (key : Key C B) (nonce header message ciphertext : List ℕ)
     (before : AtMessage form F cipher last key nonce header message ciphertext s) where
-  text : List ℕ
+  abbrev text : List ℕ
   text = joined ciphertext (take (length piece) filled) r
 
   after : AtMessage form F cipher last key nonce header (joined message piece r) text t
@@ -37,11 +37,11 @@ module _ {C B : Type 0} (form : Form B) (lawful : Lawful form) (F : C → B → 
 
 pub returns : goal.returns
 returns g c =
-    let form = g.Block.Block.form in
-    let lawful = g.met.Block.Block.lawful in
+    let form = g.C.Block.Block.form in
+    let lawful = g.met.C.Block.Block.lawful in
     let F = g.C.Cipher.f in
     let X = c.args.piece.now in
-    let string : IsString X = λ i. Fits-lt-pow (c.type-inv.piece i) in
+    let string : IsString X = λ i. Fits-lt-pow (c.type_inv.piece i) in
     let n = c.in-Some.count in
     let step : Sealed form F c.args.self.now X c.args.out.now n _ _ = search rules in
     record {
@@ -53,11 +53,11 @@ returns g c =
 
 pub returns-then-out-piece : goal.returns-then-out-piece
 returns-then-out-piece g c =
-    let form = g.Block.Block.form in
-    let lawful = g.met.Block.Block.lawful in
+    let form = g.C.Block.Block.form in
+    let lawful = g.met.C.Block.Block.lawful in
     let F = g.C.Cipher.f in
     let X = c.args.piece.now in
-    let string : IsString X = λ i. Fits-lt-pow (c.type-inv.piece i) in
+    let string : IsString X = λ i. Fits-lt-pow (c.type_inv.piece i) in
     let step : Refused form F c.args.self.now X c.args.out.now BufferTooShort _ _ =
     record { why = short (omega arith); same = refl; untouched = refl } in
     record {
@@ -67,13 +67,13 @@ returns-then-out-piece g c =
       rule = faithful form lawful F c.args.self.now _ X string c.args.out.now _ (Err BufferTooShort) step;
     }
 
-pub returns-in-default : goal.returns-in-default
-returns-in-default g c =
-    let form = g.Block.Block.form in
-    let lawful = g.met.Block.Block.lawful in
+pub returns-in_default : goal.returns-in_default
+returns-in_default g c =
+    let form = g.C.Block.Block.form in
+    let lawful = g.met.C.Block.Block.lawful in
     let F = g.C.Cipher.f in
     let X = c.args.piece.now in
-    let string : IsString X = λ i. Fits-lt-pow (c.type-inv.piece i) in
+    let string : IsString X = λ i. Fits-lt-pow (c.type_inv.piece i) in
     let past : message_max < c.args.self.now.count + length X = search rules in
     let step : Refused form F c.args.self.now X c.args.out.now MessageTooLong _ _ =
     record { why = long (omega arith) past; same = refl; untouched = refl } in

@@ -1,7 +1,8 @@
 -- A tag call carries the run on, accepted or refused, and what it filled is faithful after every run.
-use Rattle.std.proofs.Common.{◌≡◌, ℕ, ◌+◌, ◌<◌, ◌≤◌, List, length, get_or, take, set, Ok, Err, Result, sym, refl, ap, ◌∙◌, arith, rules}
+use Rattle.std.proofs.Common.{◌≡◌, ℕ, ◌+◌, ◌<◌, ◌≤◌, Bool, true, List, [], ◌∷◌, ◌++◌, length, take, set, Ok, Err, Result, sym, ap, ap₂, ◌∙◌, arith, rules}
 use Rattle.std.proofs.lemmas.List.{take_more, take_more_set, take_all}
 use Rattle.std.proofs.lemmas.Bool.{and_parts, leb-true}
+use Rattle.wire.specs.Limits.{is_tag_len_of}
 use Rattle.wire.specs.declared.fault.RecordFault.{RecordFault}
 use Rattle.wire.specs.declared.fault.RecordFault.TheVariants.{TagLength}
 use Rattle.block.specs.Form.{Form}
@@ -22,7 +23,15 @@ turn : {B : Type 0} (form : Form B) (lawful : Lawful form) (b : B) (X : List ℕ
     → y ≡ byte_at form b i
     → take i X ≡ take i (bytes_of form b)
     → take (i + 1) (set X i y) ≡ take (i + 1) (bytes_of form b)
-turn form lawful b X i y l h e kept = ?
+turn form lawful b X i y l h e kept =
+    let long : i < length (bytes_of form b) = omega (arith, length-bytes form lawful b) in
+    take_more_set X i y l
+    ∙ ap₂ (λ Y z. Y ++ z ∷ []) kept (e ∙ sym (get_or-bytes form lawful b i))
+    ∙ sym (take_more (bytes_of form b) i 0 long)
+
+-- the check of the length, for blocks of the width that was asked for
+fits : (width n u : ℕ) (t : Bool) → width ≡ n → t ≡ is_tag_len_of width u → t ≡ true → is_tag_len_of n u ≡ true
+fits width n u t same test true_test = ap (λ k. is_tag_len_of k u) (sym same) ∙ sym test ∙ true_test
 
 -- what each way out of the call owes beside its step
 module _ {C B : Type 0} (form : Form B) (lawful : Lawful form) (F : C → B → B) (t : TagStage C B) (out filled : List ℕ)
@@ -36,21 +45,33 @@ module _ {C B : Type 0} (form : Form B) (lawful : Lawful form) (F : C → B → 
   faithful = faithful_tag form lawful F cipher last key nonce header message ciphertext (with_tag tags filled r) t after
 
 pub loop-place-preserved : goal.loop-place-preserved
-loop-place-preserved g c = ?
+loop-place-preserved g c =
+    let form = g.C.Block.Block.form in
+    let X = c.args.out.now in
+    let fit = fits c.width.result form.size (length X) _ c.width.ensures c.is_tag_len.ensures c.if-not-is_tag_len.false in
+    let short : length X ≤ form.size = leb-true (length X) form.size (and_parts _ _ fit).1 in
+    turn form g.met.C.Block.Block.lawful c.args.self.now.block c.loop-place.out c.loop-place.place c.byte.result
+    (omega arith)
+    (omega arith)
+    c.byte.ensures
+    c.loop-place.invariant
 
 pub returns : goal.returns
 returns g c =
-    let form = g.Block.Block.form in
-    let lawful = g.met.Block.Block.lawful in
+    let form = g.C.Block.Block.form in
+    let lawful = g.met.C.Block.Block.lawful in
     let F = g.C.Cipher.f in
     let t = c.args.self.now in
     let X = c.args.out.now in
     let Y = c.loop-place.out in
+    let whole : c.loop-place.place ≡ length X = omega arith in
     let step : Tagged form F t X (length Y) Y =
     record {
-      fits = ?;
+      fits = fits c.width.result form.size (length X) _ c.width.ensures c.is_tag_len.ensures c.if-not-is_tag_len.false;
       counted = c.loop-place.auto.out;
-      put = ?;
+      put = sym (take_all c.loop-place.place Y (omega arith))
+          ∙ c.loop-place.invariant
+          ∙ ap (λ k. take k (bytes_of form t.block)) whole;
     } in
     record {
       step = step;
@@ -58,10 +79,10 @@ returns g c =
       rule = faithful form lawful F t X Y (Ok (length Y)) step;
     }
 
-pub returns-then-not-is-tag-len : goal.returns-then-not-is-tag-len
-returns-then-not-is-tag-len g c =
-    let form = g.Block.Block.form in
-    let lawful = g.met.Block.Block.lawful in
+pub returns-then-not-is_tag_len : goal.returns-then-not-is_tag_len
+returns-then-not-is_tag_len g c =
+    let form = g.C.Block.Block.form in
+    let lawful = g.met.C.Block.Block.lawful in
     let F = g.C.Cipher.f in
     let t = c.args.self.now in
     let X = c.args.out.now in

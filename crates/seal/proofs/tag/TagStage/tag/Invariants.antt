@@ -4,4 +4,4 @@ use Rattle.block.specs.Blocks.{bytes_of}
 use Rattle.seal.proofs.tag.TagStage.tag.Given as goal
 
 abbrev pub invariant-loop-place : goal.invariant-loop-place
-invariant-loop-place g l = take l.place l.out ≡ take l.place (bytes_of g.Block.Block.form l.self.block)
+invariant-loop-place g l = take l.place l.out ≡ take l.place (bytes_of g.C.Block.Block.form l.self.block)
