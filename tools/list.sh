@@ -14,10 +14,12 @@ command -v rt >/dev/null || { echo "list.sh: no 'rt' on the PATH: the Rattle kit
 
 log=$(mktemp)
 trap 'rm -f "$log"' EXIT
-[ -x "$here/target/bin/lister" ] || echo "list.sh: proving and building the lister, about two minutes" >&2
-if ! (cd "$here" && rt check lister) >"$log" 2>&1; then
+lister=$here/crates/lister/out/lister
+[ -x "$lister" ] || echo "list.sh: proving and building the lister, about two minutes" >&2
+# The kit builds a program where it runs it.
+if ! (cd "$here/crates/lister" && rt run -- --help) </dev/null >"$log" 2>&1; then
     tail -n 20 "$log" >&2
     echo "list.sh: the lister was not built" >&2
     exit 1
 fi
-"$here/target/bin/lister" <"$file"
+"$lister" <"$file"

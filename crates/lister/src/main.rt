@@ -5,6 +5,7 @@ use anyhow::anyhow;
 use listing::list::{INPUT_MAX, listing};
 use std::env;
 use std::io::Read;
+use std::process::ExitCode;
 
 const HELP: &str = "lister: lists the frames of a pass file, from the file's end
 
@@ -38,10 +39,13 @@ fn run(rt: &HostRuntime) -> anyhow::Result<()> {
     Err(anyhow!("unexpected argument; usage: lister < FILE (lister --help says more)"))
 }
 
-fn main(rt: HostRuntime) -> anyhow::Result<()> {
-    let outcome = run(&rt);
-    if let Err(error) = &outcome {
-        eprintln!(rt; "lister: {error}")?;
+fn main(rt: HostRuntime) -> ExitCode {
+    match run(&rt) {
+        Ok(()) => ExitCode::SUCCESS,
+        Err(error) => {
+            // Where standard error cannot be written, the status alone tells.
+            let _ = eprintln!(rt; "lister: {error}");
+            ExitCode::FAILURE
+        }
     }
-    outcome
 }
