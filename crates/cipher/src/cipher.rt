@@ -18,7 +18,7 @@ pub trait Cipher {
 
     ghost size: { ℕ };
 
-    // The cipher's meaning.
+    // The cipher's meaning, F.
     ghost f: { Self → Self.Block → Self.Block };
 
     // `KIND`, for code that knows only the trait.

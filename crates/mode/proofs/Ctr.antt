@@ -50,7 +50,7 @@ module _ {B : Type 0} (form : Form B) (lawful : Lawful form) (F : B → B) where
       ∙ ap (λ x. bit_xor x (byte_at form k i)) e
       ∙ sym (byte-xor form lawful b k i)
 
-  -- the block ctr_blocks again, whatever follows it, is what it was
+  -- the block enciphered again, whatever follows it, is what it was
   undone_byte : (K : B) (X R : List ℕ) (i : ℕ)
       → IsString X
       → i < form.size
@@ -77,7 +77,7 @@ module _ {B : Type 0} (form : Form B) (lawful : Lawful form) (F : B → B) where
       ∙ ap₂ ◌+◌ (length-into_first (F S) X) rest
       ∙ rw suc-mul (omega arith)
 
-  -- a block and what was ctr_blocks after it: each comes back by itself
+  -- a block and what was enciphered after it: each comes back by itself
   module _ (K : B) (X R : List ℕ) (q : ℕ) (rest : length R ≡ min (q * form.size) (length X - form.size)) where
     whole : length (into_first form K X ++ R) ≡ min (length X) form.size + min (q * form.size) (length X - form.size)
     whole = length-append (into_first form K X) R ∙ ap₂ ◌+◌ (length-into_first K X) rest
