@@ -10,7 +10,7 @@ use Rattle.block.specs.Lawful.{Lawful}
 use Rattle.block.specs.Blocks.{end_block, xored, bytes_of}
 use Rattle.block.specs.ByBytes.{IsString}
 use Rattle.block.proofs.Bytes.{length-bytes}
-use Rattle.mode.specs.Strings.{nonce_block, header_block, ciphertext_block, tag_block_of, ciphertext as ciphertextOf, tag as tag_of}
+use Rattle.mode.specs.Strings.{nonce_block, header_block, ciphertext_block, tag_block_of, ciphertext as ciphertext_of, tag as tag_of}
 use Rattle.mode.proofs.StringParts.{IsString-append}
 use Rattle.stream.specs.Chaining.{holding, fed, finished}
 use Rattle.stream.specs.Counting.{starting_at, enciphered, advanced}
@@ -153,12 +153,12 @@ module _ {C B : Type 0} (form : Form B) (lawful : Lawful form) (F : C → B → 
   pub record TagHeld (nonce header message ciphertext : List ℕ) (t : TagStage C B) : Type 0 where
     pub on : OnKey t.key
     pub sum : t.block ≡ tag_block_of form (F cipher) nonce header ciphertext
-    pub text : ciphertext ≡ ciphertextOf form (F cipher) nonce message
+    pub text : ciphertext ≡ ciphertext_of form (F cipher) nonce message
 
   text_of : (nonce header message ciphertext : List ℕ) (s : MessageStage C B)
       → MessageHeld nonce header message ciphertext s
-      → ciphertext ≡ ciphertextOf form (F cipher) nonce message
-  unfolding ciphertextOf
+      → ciphertext ≡ ciphertext_of form (F cipher) nonce message
+  unfolding ciphertext_of
   text_of nonce header message ciphertext s h =
       h.text ∙ (counts form lawful (F cipher)).whole (nonce_block form (F cipher) nonce) message h.string
 

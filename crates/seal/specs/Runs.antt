@@ -5,7 +5,7 @@ use Rattle.wire.specs.Limits.{header_max, message_max, is_tag_len_of}
 use Rattle.wire.specs.declared.fault.RecordFault.{RecordFault}
 use Rattle.block.specs.Form.{Form}
 use Rattle.block.specs.ByBytes.{IsString}
-use Rattle.mode.specs.Strings.{ciphertext as ciphertextOf, tag as tag_of}
+use Rattle.mode.specs.Strings.{ciphertext as ciphertext_of, tag as tag_of}
 use Rattle.key.specs.Headers.{joined}
 use Rattle.key.specs.Runs.{Keys}
 use Rattle.key.specs.declared.key.Key.{Key}
@@ -102,5 +102,5 @@ module _ {C B : Type 0} (form : Form B) (F : C → B → B) (cipher : C) where
 
   -- the rule: what was put out is the mode's ciphertext of what came in, and the tags are the mode's
   pub record Faithful (nonce header message ciphertext : List ℕ) (tags : List (List ℕ)) : Type 0 where
-    pub text : ciphertext ≡ ciphertextOf form (F cipher) nonce message
+    pub text : ciphertext ≡ ciphertext_of form (F cipher) nonce message
     pub tagged : AllTags nonce header ciphertext tags
