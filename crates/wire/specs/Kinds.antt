@@ -1,8 +1,9 @@
 -- The one list of kinds: number and n. Assumes nothing.
-use Rattle.std.specs.Prelude.{ℕ, cond, List, [], ◌∷◌, Some, None, Option, ◌==◌}
+use Rattle.std.specs.Prelude.{ℕ, cond, List, [], ◌∷◌, Some, None, Option, Result, ok_or, ◌==◌}
 use Rattle.wire.specs.declared.kind.Suite.{Suite}
 use Rattle.wire.specs.declared.kind.Suite.TheVariants.{Aes128, Present80, Bench}
 use Rattle.wire.specs.declared.kind.Kind.{Kind}
+use Rattle.wire.specs.declared.kind.UnknownKind.{UnknownKind}
 use Rattle.wire.specs.declared.kind.Kind.TheVariants.{Idle, Sealed}
 
 abbrev pub kinds : List Kind
@@ -30,3 +31,7 @@ with_number (k ∷ ks) b = cond (b == kind_number k) (Some k) (with_number ks b)
 -- the kind of the list that has this number
 abbrev pub kind_of : ℕ → Option Kind
 kind_of = with_number kinds
+
+-- the same as a result: a number that no kind has is the error
+abbrev pub kind_or_error : ℕ → Result Kind UnknownKind
+kind_or_error number = ok_or (kind_of number) (record { number = number })

@@ -1,32 +1,27 @@
 // Every fault with its number. A fault is carried whole inside the next one up, which adds where it was found.
 ghost use Rattle.std.specs.Prelude.{◌≡◌};
 ghost use Rattle.wire.specs.Faults.{record_number, cause_number, pass_number, list_number, placed};
-ghost use Rattle.wire.specs.declared.fault.Cause.TheVariants.{Record as InRecord};
+ghost use Rattle.wire.specs.declared.fault.Cause.TheVariants.{Record as InRecord, UnknownKind as NoSuchKind};
 ghost use Rattle.wire.specs.declared.fault.ListFault.TheVariants.{Pass as InPass};
 
-// What is wrong with a record.
+use crate::kind::UnknownKind;
+
+// What is wrong with a record, each with its number.
 #[derive(Clone, Copy, PartialEq, Eq, Debug)]
 pub enum RecordFault {
-    HeaderTooLong,
-    BufferTooShort,
-    MessageTooLong,
-    KeyLength,
-    TagLength,
-    TagWrong,
+    HeaderTooLong = 1,
+    BufferTooShort = 2,
+    MessageTooLong = 3,
+    KeyLength = 4,
+    TagLength = 5,
+    TagWrong = 6,
 }
 
 impl RecordFault {
     pub fn number(self) -> u8
         ensures { result ≡ record_number self }
     {
-        match self {
-            RecordFault::HeaderTooLong => 1,
-            RecordFault::BufferTooShort => 2,
-            RecordFault::MessageTooLong => 3,
-            RecordFault::KeyLength => 4,
-            RecordFault::TagLength => 5,
-            RecordFault::TagWrong => 6,
-        }
+        self as u8
     }
 }
 
@@ -66,8 +61,16 @@ impl Cause {
 impl From<RecordFault> for Cause {
     ghost from_gives = { λ e r. r ≡ InRecord e };
 
-    fn from(record: RecordFault) -> Cause {
-        Cause::Record(record)
+    fn from(found: RecordFault) -> Cause {
+        Cause::Record(found)
+    }
+}
+
+impl From<UnknownKind> for Cause {
+    ghost from_gives = { λ _ r. r ≡ NoSuchKind };
+
+    fn from(_unknown: UnknownKind) -> Self {
+        Self::UnknownKind
     }
 }
 
@@ -141,8 +144,5 @@ impl From<PassFault> for ListFault {
 pub fn at<T, E>(res: Result<T, E>, number: usize) -> Result<T, (E, usize)>
     ensures { result ≡ placed res number }
 {
-    match res {
-        Ok(value) => Ok(value),
-        Err(error) => Err((error, number)),
-    }
+    res.map_err(|error| (error, number))
 }

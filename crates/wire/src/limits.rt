@@ -13,5 +13,5 @@ pub const TAG_MIN: usize = 4;
 pub fn is_tag_len(block_len: usize, len: usize) -> bool
     ensures { result ≡ is_tag_len_of block_len len }
 {
-    len >= TAG_MIN && len <= block_len
+    (TAG_MIN..=block_len).contains(&len)
 }
