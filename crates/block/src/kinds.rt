@@ -1,48 +1,58 @@
-// The two kinds of block offer what every kind does.
-ghost use Rattle.block.specs.Kinds.{form8, form16};
+// The kinds of block: of 8 bytes, and of 16. One text makes both what a kind of block is.
+ghost use Rattle.std.specs.Prelude.{◌≡◌, ℕ, ◌⊎◌, refl, ◌*◌, ◌%◌, ◌^◌};
 ghost use Rattle.std.proofs.Common.{inl, inr};
-ghost use Rattle.std.specs.Prelude.{refl};
-ghost use Rattle.block.specs.Same.{same8, same16};
+ghost use Rattle.block.specs.Kinds.{form_of};
+ghost use Rattle.block.specs.Same.{same};
 ghost use Rattle.block.specs.Xor.{lawful_by_number};
 
 use crate::block::Block;
-use crate::block8::Block8;
-use crate::block16::Block16;
+use crate::block_of::BlockOf;
 
-impl Block for Block8 {
-    ghost form = { form8 };
+pub type Block8 = BlockOf<8>;
 
-    ghost lawful = { lawful_by_number form8 same8 (λ a. a.fits) (λ x. refl) (inl refl) };
+pub type Block16 = BlockOf<16>;
 
-    fn width() -> usize {
-        8
-    }
-
-    fn number(self) -> u128 {
-        u128::from(self.number)
-    }
-
-    fn from_number(number: u128) -> Block8 {
-        Block8 {
-            number: (number % (1 << 64)) as u64,
-        }
-    }
+// How many bytes a block may have.
+pub trait Size<const N: usize> {
+    ghost allowed: { (N ≡ 8) ⊎ (N ≡ 16) };
 }
 
-impl Block for Block16 {
-    ghost form = { form16 };
+impl Size<8> for BlockOf<8> {
+    ghost allowed = { inl refl };
+}
 
-    ghost lawful = { lawful_by_number form16 same16 (λ a. a.fits) (λ x. refl) (inr refl) };
+impl Size<16> for BlockOf<16> {
+    ghost allowed = { inr refl };
+}
+
+impl<const N: usize> Block for BlockOf<N>
+where
+    BlockOf<N>: Size<N>,
+{
+    ghost form = { form_of N };
+
+    ghost lawful = { lawful_by_number (form_of N) same (λ a. a.fits) (λ x. refl) ⟦<BlockOf<N> as Size<N>>⟧.allowed };
 
     fn width() -> usize {
-        16
+        N
     }
 
     fn number(self) -> u128 {
         self.number
     }
 
-    fn from_number(number: u128) -> Block16 {
-        Block16 { number }
+    fn from_number(number: u128) -> BlockOf<N> {
+        BlockOf {
+            number: lowest_bytes(number, N),
+        }
     }
+}
+
+// The number modulo 2 to the power 8n: the bits that a block has no room for are shifted out.
+fn lowest_bytes(number: u128, width: usize) -> u128
+    requires { (width ≡ 8) ⊎ (width ≡ 16) }
+    ensures { result ≡ number % 2 ^ (8 * width) }
+{
+    let spare = 128 - 8 * width;
+    number << spare >> spare
 }

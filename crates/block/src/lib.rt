@@ -2,7 +2,6 @@
 #![tactic(auto)]
 
 pub mod block;
-pub mod block16;
-pub mod block8;
+pub mod block_of;
 pub mod kinds;
 pub mod laws;
