@@ -1,13 +1,13 @@
 // The bench cipher, for tests on the ground: a block is xored with the key. It keeps nothing secret.
-ghost use Rattle.std.specs.Prelude.{◌≡◌, replicate};
-ghost use Rattle.block.specs.Kinds.{form8};
+ghost use Rattle.wire.specs.declared.kind.Suite.TheVariants.{Bench as BenchSuite};
 ghost use Rattle.cipher.specs.Bench.{bench_f, bench_under};
 ghost use Rattle.std.proofs.Common.{rules};
 
 use crate::cipher::Cipher;
 use crate::load::Keyed;
 use block::block::Block;
-use block::block8::Block8;
+use block::kinds::Block8;
+use wire::kind::Suite;
 
 #[derive(Drop)]
 pub struct Bench {
@@ -17,13 +17,13 @@ pub struct Bench {
 impl Cipher for Bench {
     type Block = Block8;
 
-    const KIND: u8 = 3;
+    const SUITE: Suite = Suite::Bench;
 
     const N: usize = 8;
 
-    ghost kind = { 3 };
+    ghost SUITE = { BenchSuite };
 
-    ghost size = { 8 };
+    ghost N = { 8 };
 
     ghost f = { bench_f };
 
@@ -31,22 +31,7 @@ impl Cipher for Bench {
 
     ghost wide = { Prim.search rules };
 
-    fn kind_number() -> u8
-        ensures { result ≡ 3 }
-    {
-        Self::KIND
-    }
-
-    fn block_len() -> usize
-        ensures { result ≡ 8 }
-    {
-        Self::N
-    }
-
-    fn encrypt(&self, block: Block8) -> Block8
-        ensures value { result ≡ bench_f self.now block }
-        ensures width { 8 ≡ form8.size }
-    {
+    fn encrypt(&self, block: Block8) -> Block8 {
         block.xor(self.key)
     }
 }
@@ -54,27 +39,17 @@ impl Cipher for Bench {
 impl Keyed for Bench {
     const KEY_LEN: usize = 8;
 
-    ghost key_width = { 8 };
+    ghost KEY_LEN = { 8 };
 
     ghost under = { bench_under };
 
-    fn key_size() -> usize
-        ensures { result ≡ 8 }
-    {
-        Self::KEY_LEN
-    }
-
-    fn fresh() -> Bench
-        ensures { result ≡ bench_under (replicate 8 0) }
-    {
+    fn fresh() -> Bench {
         Bench {
             key: Block8::zero(),
         }
     }
 
-    fn set_key(&mut self, key: &[u8])
-        ensures { self.new ≡ bench_under key.now }
-    {
+    fn set_key(&mut self, key: &[u8]) {
         self.key = Block8::from_bytes(key);
     }
 }

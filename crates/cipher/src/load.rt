@@ -9,19 +9,14 @@ use wire::fault::RecordFault;
 pub trait Keyed: Cipher {
     const KEY_LEN: usize;
 
-    // What `KEY_LEN` is in clauses.
-    ghost key_width: { ℕ };
+    ghost KEY_LEN: { ℕ };
 
     // The cipher under some key bytes.
     ghost under: { List ℕ → Self };
 
-    // `KEY_LEN`, for code that knows only the trait.
-    fn key_size() -> usize
-        ensures { result ≡ key_width };
-
     // A cipher with a key of all 00.
     fn fresh() -> Self
-        ensures { result ≡ under (replicate key_width 0) };
+        ensures { result ≡ under (replicate KEY_LEN 0) };
 
     // Takes these key bytes; `load` is the call that refuses any other count than `KEY_LEN`.
     fn set_key(&mut self, key: &[u8])
@@ -30,12 +25,12 @@ pub trait Keyed: Cipher {
 
 // Loads the lent key bytes into the lent cipher, and answers their count. Whatever the answer, the bytes end as 00.
 pub fn load<C: Keyed>(cipher: &mut C, key: &mut [u8]) -> Result<usize, RecordFault>
-    ensures step { Loads C.Keyed.key_width C.Keyed.under cipher.old key.old result cipher.new }
+    ensures step { Loads C.KEY_LEN C.under cipher.old key.old result cipher.new }
     ensures zeroed { key.new ≡ replicate (length key.old) 0 }
 {
     let lent = LentKey { bytes: key };
     let bytes = lent.bytes();
-    if bytes.len() != C::key_size() {
+    if bytes.len() != C::KEY_LEN {
         return Err(RecordFault::KeyLength);
     }
     cipher.set_key(bytes);
