@@ -2,6 +2,7 @@
 ghost use Rattle.mode.specs.Worked.{AllHold};
 
 use crate::worked::{BlockRow, MacRow, OpenRow, SealRow, Worked};
+use wire::fault::RecordFault;
 
 pub fn table() -> [Worked; 17]
     ensures { AllHold result }
@@ -85,7 +86,7 @@ const TABLE: [Worked; 17] = [
         header: &[],
         ciphertext: &[0xFF],
         tag: &[0x55, 0, 0, 1],
-        answer: Err(6),
+        answer: Err(RecordFault::TagWrong),
     }),
     Worked::Opened(OpenRow {
         nonce: &[0xAA],
@@ -99,14 +100,14 @@ const TABLE: [Worked; 17] = [
         header: &[],
         ciphertext: &[0xFF],
         tag: &[0x55, 0, 0],
-        answer: Err(5),
+        answer: Err(RecordFault::TagLength),
     }),
     Worked::Opened(OpenRow {
         nonce: &[0xAA],
         header: &[],
         ciphertext: &[0xFF],
         tag: &[0x55, 0, 0, 0, 0, 0, 0, 0, 0],
-        answer: Err(5),
+        answer: Err(RecordFault::TagLength),
     }),
     Worked::Cmac(MacRow {
         string: &[],

@@ -1,4 +1,6 @@
 // A value worked by hand.
+use wire::fault::RecordFault;
+
 #[derive(Clone, Copy)]
 pub enum Worked {
     Doubled8(BlockRow),
@@ -36,12 +38,12 @@ pub struct SealRow {
     pub tag_block: &'static [u8],
 }
 
-// The answer is the message, or the number of the refusal.
+// The answer is the message, or the refusal.
 #[derive(Clone, Copy)]
 pub struct OpenRow {
     pub nonce: &'static [u8],
     pub header: &'static [u8],
     pub ciphertext: &'static [u8],
     pub tag: &'static [u8],
-    pub answer: Result<&'static [u8], u8>,
+    pub answer: Result<&'static [u8], RecordFault>,
 }

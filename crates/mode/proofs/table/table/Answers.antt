@@ -1,6 +1,5 @@
 -- Each row is computed from the definitions.
 use Rattle.std.proofs.Common.{refl}
-use Rattle.wire.specs.declared.fault.RecordFault.TheVariants.{TagLength, TagWrong}
 use Rattle.mode.specs.Strings.{into_last, into_first, is_full, filled_up, l, two_l, four_l, pad, cbc, cmac, omac, ctr_blocks, ctr}
 use Rattle.mode.specs.Strings.{nonce_block, header_block, ciphertext_block, ciphertext, tag_block_of, tag, opening}
 use Rattle.mode.proofs.table.table.Goals as goal
@@ -23,10 +22,10 @@ returns c =
     & (refl, refl)
     & (refl, refl)
     & refl
-    & (TagWrong, refl, refl)
     & refl
-    & (TagLength, refl, refl)
-    & (TagLength, refl, refl)
+    & refl
+    & refl
+    & refl
     & refl
     & (refl, refl)
     & tt
