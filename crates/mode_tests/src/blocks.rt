@@ -1,7 +1,6 @@
 // What blocks of both kinds answer at the edges.
 use block::block::Block;
-use block::block8::Block8;
-use block::block16::Block16;
+use block::kinds::{Block8, Block16};
 
 const LOW: u128 = 0x0102030405060708;
 

@@ -5,6 +5,7 @@ use block::block::Block;
 use cipher::load::{Keyed, load};
 use std::process::Abort;
 use std::test::Fail;
+use wire::fault::RecordFault;
 
 // The N-block of this nonce is sixteen FF, so that the counter's carry runs through the whole block.
 const NONCE: &[u8] = b"\xFF\xFF\xFF\xFF\xFF\xFF\xFF\xFF\xFF\xFF\xFF\xFF\xFF\xFF\xFF\x7E";
@@ -40,14 +41,19 @@ fn sealed(rt: HostRuntime) -> Result<(), Fail> {
     Ok(())
 }
 
-// The number of the refusal, or 0 where the record opens to its message.
-fn verdict(rt: &impl Abort, eax: &Eax<'_, Wide>, header: &[u8], tag: &[u8]) -> Result<u8, Fail> {
+// The refusal, or none where the record opens to its message.
+fn refusal(
+    rt: &impl Abort,
+    eax: &Eax<'_, Wide>,
+    header: &[u8],
+    tag: &[u8],
+) -> Result<Option<RecordFault>, Fail> {
     match eax.open(NONCE, header, CIPHERTEXT, tag)? {
         Ok(message) => {
             assert_eq!(rt; message.as_slice(), [0; 17].as_slice());
-            Ok(0)
+            Ok(None)
         }
-        Err(fault) => Ok(fault.number()),
+        Err(fault) => Ok(Some(fault)),
     }
 }
 
@@ -58,11 +64,15 @@ fn opened(rt: HostRuntime) -> Result<(), Fail> {
         cipher: &wide,
         heap: rt.alloc(),
     };
-    assert_eq!(rt; verdict(&rt, &eax, HEADER, TAG_BLOCK)?, 0);
-    assert_eq!(rt; verdict(&rt, &eax, HEADER, &TAG_BLOCK[0..4])?, 0);
-    assert_eq!(rt; verdict(&rt, &eax, HEADER, &TAG_BLOCK[0..3])?, 5);
-    assert_eq!(rt; verdict(&rt, &eax, HEADER, &[0; 17])?, 5);
-    assert_eq!(rt; verdict(&rt, &eax, HEADER, &[0x10, 0x90, 0x10, 0x11])?, 6);
-    assert_eq!(rt; verdict(&rt, &eax, &HEADER[0..16], TAG_BLOCK)?, 6);
+    let (length, wrong) = (Some(RecordFault::TagLength), Some(RecordFault::TagWrong));
+    assert_eq!(rt; refusal(&rt, &eax, HEADER, TAG_BLOCK)?, None);
+    assert_eq!(rt; refusal(&rt, &eax, HEADER, &TAG_BLOCK[0..4])?, None);
+    assert_eq!(rt; refusal(&rt, &eax, HEADER, &TAG_BLOCK[0..3])?, length);
+    assert_eq!(rt; refusal(&rt, &eax, HEADER, &[0; 17])?, length);
+    assert_eq!(rt;
+        refusal(&rt, &eax, HEADER, &[0x10, 0x90, 0x10, 0x11])?,
+        wrong
+    );
+    assert_eq!(rt; refusal(&rt, &eax, &HEADER[0..16], TAG_BLOCK)?, wrong);
     Ok(())
 }

@@ -22,18 +22,14 @@ pub(crate) struct Eax<'a, C> {
 
 // The bytes of a block, from its first.
 pub(crate) fn bytes<B: Block>(heap: Global, block: B) -> Result<Vec<u8>, AllocError> {
-    let mut bytes = Vec::new(heap);
-    for place in 0..B::width() {
-        bytes.push(block.byte(place))?;
-    }
-    Ok(bytes)
+    (0..B::width()).map(|place| block.byte(place)).collect(heap)
 }
 
 // n. It is never 0, and `max` is how that is known here.
 fn block_len<C: Cipher>() -> usize
     ensures { 0 < result }
 {
-    C::block_len().max(1)
+    C::N.max(1)
 }
 
 impl<C: Cipher> Eax<'_, C> {
@@ -46,25 +42,20 @@ impl<C: Cipher> Eax<'_, C> {
             return Ok((padded, mask));
         }
         padded.push(0x80)?;
-        for _ in 0..n - 1 - string.len() % n {
-            padded.push(0)?;
-        }
+        let more = n - 1 - string.len() % n;
+        padded.resize(padded.len().saturating_add(more), 0)?;
         Ok((padded, mask.double()))
     }
 
     pub(crate) fn cmac(&self, string: &[u8]) -> Result<C::Block, AllocError> {
         let n = block_len::<C>();
         let (padded, mask) = self.padded(string)?;
-        let last = (padded.len() / n).saturating_sub(1);
-        let mut value = C::Block::zero();
-        for (i, block) in padded.as_slice().chunks(n).enumerate() {
-            let mut block = C::Block::from_bytes(block);
-            if i == last {
-                block = block.xor(mask);
-            }
-            value = self.cipher.encrypt(value.xor(block));
-        }
-        Ok(value)
+        let (front, last) = padded.as_slice().split_at(padded.len().saturating_sub(n));
+        let value = front.chunks(n).fold(C::Block::zero(), |value, block| {
+            self.cipher.encrypt(value.xor(C::Block::from_bytes(block)))
+        });
+        let last = C::Block::from_bytes(last).xor(mask);
+        Ok(self.cipher.encrypt(value.xor(last)))
     }
 
     pub(crate) fn omac(&self, t: u8, string: &[u8]) -> Result<C::Block, AllocError> {
@@ -77,9 +68,9 @@ impl<C: Cipher> Eax<'_, C> {
         let mut counter = start;
         let mut text = Vec::new(self.heap);
         for block in string.chunks(block_len::<C>()) {
-            let stream = self.cipher.encrypt(counter);
-            for (place, byte) in block.iter().enumerate() {
-                text.push(*byte ^ stream.byte(place))?;
+            let stream = bytes(self.heap, self.cipher.encrypt(counter))?;
+            for (byte, mask) in block.iter().zip(stream.as_slice()) {
+                text.push(*byte ^ *mask)?;
             }
             counter = counter.next();
         }
@@ -120,14 +111,12 @@ impl<C: Cipher> Eax<'_, C> {
         ciphertext: &[u8],
         tag: &[u8],
     ) -> Result<Result<Vec<u8>, RecordFault>, AllocError> {
-        if !is_tag_len(C::block_len(), tag.len()) {
+        if !is_tag_len(C::N, tag.len()) {
             return Ok(Err(RecordFault::TagLength));
         }
-        let block = self.tag_block(nonce, header, ciphertext)?;
-        for (place, byte) in tag.iter().enumerate() {
-            if *byte != block.byte(place) {
-                return Ok(Err(RecordFault::TagWrong));
-            }
+        let block = bytes(self.heap, self.tag_block(nonce, header, ciphertext)?)?;
+        if !block.as_slice().starts_with(tag) {
+            return Ok(Err(RecordFault::TagWrong));
         }
         Ok(Ok(self.ctr(self.omac(0, nonce)?, ciphertext)?))
     }

@@ -2,8 +2,7 @@
 use crate::reference::{Eax, bytes};
 use crate::wide::Wide;
 use block::block::Block;
-use block::block8::Block8;
-use block::block16::Block16;
+use block::kinds::{Block8, Block16};
 use cipher::bench::Bench;
 use cipher::cipher::Cipher;
 use cipher::load::{Keyed, load};
@@ -38,8 +37,8 @@ fn check_opened<C: Cipher>(rt: &impl Abort, eax: &Eax<'_, C>, row: OpenRow) -> R
             assert_eq!(rt; opened.as_slice(), message);
             Ok(())
         },
-        (Err(fault), Err(number)) => {
-            assert_eq!(rt; fault.number(), number);
+        (Err(fault), Err(expected)) => {
+            assert_eq!(rt; fault, expected);
             Ok(())
         },
         (Ok(_), Err(_)) => Err(Fail::new("opened")),

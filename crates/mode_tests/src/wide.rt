@@ -1,13 +1,15 @@
 // A cipher for tests, with blocks and a key of 16 bytes: F(b) is b xor the key, and one more. Its kind is that of AES-128,
 // the one kind that has blocks of 16 bytes.
 ghost use Rattle.block.specs.Blocks.{xored, following, block_of};
-ghost use Rattle.block.specs.Kinds.{form16};
+ghost use Rattle.block.specs.Kinds.{form_of};
+ghost use Rattle.wire.specs.declared.kind.Suite.TheVariants.{Aes128};
 ghost use Rattle.std.proofs.Common.{rules};
 
 use block::block::Block;
-use block::block16::Block16;
+use block::kinds::Block16;
 use cipher::cipher::Cipher;
 use cipher::load::Keyed;
+use wire::kind::Suite;
 
 #[derive(Drop)]
 pub struct Wide {
@@ -17,27 +19,19 @@ pub struct Wide {
 impl Cipher for Wide {
     type Block = Block16;
 
-    const KIND: u8 = 1;
+    const SUITE: Suite = Suite::Aes128;
 
     const N: usize = 16;
 
-    ghost kind = { 1 };
+    ghost SUITE = { Aes128 };
 
-    ghost size = { 16 };
+    ghost N = { 16 };
 
-    ghost f = { λ c b. following form16 (xored form16 b c.key) };
+    ghost f = { λ c b. following (form_of 16) (xored (form_of 16) b c.key) };
 
     ghost named = { Prim.search rules };
 
     ghost wide = { Prim.search rules };
-
-    fn kind_number() -> u8 {
-        Self::KIND
-    }
-
-    fn block_len() -> usize {
-        Self::N
-    }
 
     fn encrypt(&self, block: Block16) -> Block16 {
         block.xor(self.key).next()
@@ -47,13 +41,9 @@ impl Cipher for Wide {
 impl Keyed for Wide {
     const KEY_LEN: usize = 16;
 
-    ghost key_width = { 16 };
+    ghost KEY_LEN = { 16 };
 
-    ghost under = { λ k. record { key = block_of form16 k } };
-
-    fn key_size() -> usize {
-        Self::KEY_LEN
-    }
+    ghost under = { λ k. record { key = block_of (form_of 16) k } };
 
     fn fresh() -> Wide {
         Wide {
