@@ -1,4 +1,6 @@
 // The bench cipher, for tests on the ground: a block is xored with the key. It keeps nothing secret.
+ghost use Rattle.std.specs.Prelude.{◌≡◌, replicate};
+ghost use Rattle.block.specs.Kinds.{form_of};
 ghost use Rattle.wire.specs.declared.kind.Suite.TheVariants.{Bench as BenchSuite};
 ghost use Rattle.cipher.specs.Bench.{bench_f, bench_under};
 ghost use Rattle.std.proofs.Common.{rules};
@@ -31,7 +33,10 @@ impl Cipher for Bench {
 
     ghost wide = { Prim.search rules };
 
-    fn encrypt(&self, block: Block8) -> Block8 {
+    fn encrypt(&self, block: Block8) -> Block8
+        ensures value { result ≡ bench_f self.now block }
+        ensures width { 8 ≡ (form_of 8).size }
+    {
         block.xor(self.key)
     }
 }
@@ -43,13 +48,17 @@ impl Keyed for Bench {
 
     ghost under = { bench_under };
 
-    fn fresh() -> Bench {
+    fn fresh() -> Bench
+        ensures { result ≡ bench_under (replicate 8 0) }
+    {
         Bench {
             key: Block8::zero(),
         }
     }
 
-    fn set_key(&mut self, key: &[u8]) {
+    fn set_key(&mut self, key: &[u8])
+        ensures { self.new ≡ bench_under key.now }
+    {
         self.key = Block8::from_bytes(key);
     }
 }
