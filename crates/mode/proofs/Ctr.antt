@@ -1,7 +1,8 @@
 -- CTR keeps a string's length, and twice under one S gives the string back: each byte is xored twice with the same byte,
 -- which the laws of xor undo.
-use Rattle.std.proofs.Common.{◌≡◌, ℕ, zero, suc, ◌+◌, ◌-◌, ◌*◌, ◌/◌, ◌%◌, ◌<◌, ◌≤◌, min, List, [], ◌∷◌, ◌++◌, length, get_or, take, drop, sym, refl, ap, ◌∙◌, ap₂, ⊎_elim, mod-lt, mod-eq_of_lt, suc-mul, suc-add, zero-add, zero-mul, arith}
+use Rattle.std.proofs.Common.{◌≡◌, ℕ, zero, suc, ◌+◌, ◌-◌, ◌*◌, ◌/◌, ◌%◌, ◌<◌, ◌≤◌, min, List, ◌++◌, length, get_or, take, drop, sym, refl, ap, ◌∙◌, ap₂, ⊎_elim, mod-lt, mod-eq_of_lt, suc-mul, zero-mul, arith}
 use lib.Bits.{bit_xor}
+use Rattle.std.proofs.Math.Seq.{take-add}
 use Rattle.std.proofs.lemmas.Nat.{div-add-mod'}
 use Rattle.std.proofs.lemmas.List.{length-take, length-drop, length-append, get_or-take, get_or_append_left, take_all, drop_at, ext_get_or, nil_from_length}
 use Rattle.std.proofs.lemmas.Bool.{cases_lt}
@@ -14,12 +15,6 @@ use Rattle.mode.specs.Strings.{into_first, ctr_blocks, ctr}
 use Rattle.mode.specs.Laws.{CtrUndoes}
 use Rattle.mode.proofs.StringParts.{IsString-drop, IsString-append, IsString-take}
 use Rattle.mode.proofs.Undone.{undone}
-
--- as many bytes from the front, and as many more from what is left
-take-add : (m n : ℕ) (X : List ℕ) → take m X ++ take n (drop m X) ≡ take (m + n) X
-take-add zero n X = rw zero-add refl
-take-add (suc m) n [] = take_all n [] (omega arith) ∙ sym (take_all (suc m + n) [] (omega arith))
-take-add (suc m) n (x ∷ X) = rw suc-add (ap (λ Y. x ∷ Y) (take-add m n X))
 
 -- enough whole blocks for a string
 pub enough : (x n : ℕ) → 0 < n → x ≤ (x + n - 1) / n * n
@@ -119,7 +114,7 @@ module _ {B : Type 0} (form : Form B) (lawful : Lawful form) (F : B → B) where
       (front (F S) X R q rest h)
       (ap (ctr_blocks form F q (following form S)) (back (F S) X R q rest)
       ∙ ctr_blocks_twice q (following form S) (drop n X) (IsString-drop n X h))
-      ∙ take-add n (q * n) X
+      ∙ sym (take-add n (q * n) X)
       ∙ ap (λ k. take k X) times
 
   IsString-ctr_blocks : (q : ℕ) (S : B) (X : List ℕ) → IsString (ctr_blocks form F q S X)

@@ -1,6 +1,6 @@
 -- Opening hands out a message exactly when one gives the ciphertext and the tag: CTR undoes itself, so that the message is
 -- CTR of the ciphertext.
-use Rattle.std.proofs.Common.{◌≡◌, ℕ, Bool, true, false, cond, List, length, Ok, Err, Result, sym, refl, ap, ◌∙◌, arith}
+use Rattle.std.proofs.Common.{◌≡◌, ℕ, Bool, true, false, cond, List, length, Ok, Err, Result, sym, refl, ap, ◌∙◌}
 use Rattle.std.proofs.lemmas.Slice.Eq.{bytes_eq-Decides}
 use Rattle.std.proofs.lemmas.Bool.{cond-true}
 use Rattle.std.specs.Str.{bytes_eq}
@@ -38,12 +38,12 @@ module _ {B : Type 0} (form : Form B) (lawful : Lawful form) (F : B → B) (N H 
         fits = f;
         tagged = sym ((bytes_eq-Decides T _).0 t);
       }
-  given M true false f t c e = let z : ◌≡◌ {A = ℕ} 0 1 = cc in absurd (omega arith)
-  given M false same f t c e = let z : ◌≡◌ {A = ℕ} 0 1 = cc in absurd (omega arith)
+  given M true false f t c e = absurd (cc)
+  given M false same f t c e = absurd (cc)
 
   refused : (fault : RecordFault) (fits same : Bool) → answer fits same ≡ Err fault → record_number fault ≡ cond fits 6 5
   unfolding answer
-  refused fault true true e = let z : ◌≡◌ {A = ℕ} 0 1 = cc in absurd (omega arith)
+  refused fault true true e = absurd (cc)
   refused fault true false e = let same : TagWrong ≡ fault = cc in sym (ap record_number same)
   refused fault false same e = let same : TagLength ≡ fault = cc in sym (ap record_number same)
 

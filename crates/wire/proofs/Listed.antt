@@ -1,5 +1,5 @@
 -- Each kind is found by its number, and what is found has that number: no two of the list have the same.
-use Rattle.std.proofs.Common.{◌≡◌, ℕ, Bool, true, false, cond, eqb, List, [], ◌∷◌, Some, sym, refl, ap, ◌∙◌, arith}
+use Rattle.std.proofs.Common.{◌≡◌, ℕ, Bool, true, false, cond, eqb, List, [], ◌∷◌, Some, sym, refl, ap, ◌∙◌}
 use Rattle.std.proofs.lemmas.Bool.{eqb-true}
 use Rattle.wire.specs.Kinds.{kinds, kind_number, with_number, kind_of}
 use Rattle.wire.specs.declared.kind.Kind.{Kind}
@@ -13,7 +13,7 @@ listed (Sealed Present80) = refl
 listed (Sealed Bench) = refl
 
 found_in : (ks : List Kind) (b : ℕ) (k : Kind) → with_number ks b ≡ Some k → kind_number k ≡ b
-found_in [] b k e = let z : ◌≡◌ {A = ℕ} 0 1 = cc in absurd (omega arith)
+found_in [] b k e = absurd (cc)
 found_in (j ∷ js) b k e = by_test (found_in js b k) (eqb b (kind_number j)) refl e
   where
     by_test : (with_number js b ≡ Some k → kind_number k ≡ b)
