@@ -1,8 +1,10 @@
 // A kind of block: what every kind offers, and the laws that it proves.
-ghost use Rattle.std.specs.Prelude.{◌≡◌, ℕ, ◌^◌, ◌<◌, ◌≤◌, slice_index};
+ghost use Rattle.std.specs.Prelude.{◌≡◌, ℕ, ◌<◌, slice_index};
 ghost use Rattle.block.specs.Form.{Form};
 ghost use Rattle.block.specs.Lawful.{Lawful};
-ghost use Rattle.block.specs.Blocks.{zero_block, end_block, xored, byte_at, with_byte_at, shifted_left, doubled, following, shift as shift_of, replaced, block_of};
+ghost use Rattle.block.specs.Blocks.{zero_block, end_block, xored, byte_at, with_byte_at, shifted_left, doubled, following, block_of};
+
+use crate::place::BytePlace;
 
 pub trait Block: Copy {
     // How a block is read as a number. What each call answers is a definition over this.
@@ -72,7 +74,7 @@ pub trait Block: Copy {
         if place >= width {
             return 0;
         }
-        ((self.number() >> lowest_bit(width, place)) % 256) as u8
+        BytePlace::of(width, place).get(self.number())
     }
 
     // The block with another byte at a place; past its last, nothing is replaced.
@@ -83,7 +85,7 @@ pub trait Block: Copy {
         if place >= width {
             return self;
         }
-        Self::from_number(with_byte(self.number(), lowest_bit(width, place), byte))
+        Self::from_number(BytePlace::of(width, place).put(self.number(), byte))
     }
 
     // The block whose bytes are the first n of a string, and 00 where it has no more.
@@ -100,32 +102,4 @@ pub trait Block: Copy {
 
     // n is 8 or 16, a block is given by its number, and xor obeys its four laws.
     ghost lawful: { Lawful form };
-}
-
-// Where the byte at a place begins, in bits from the lowest.
-fn lowest_bit(width: usize, place: usize) -> usize
-    requires { (place < width) × (width ≤ 16) }
-    ensures value { result ≡ shift_of width place }
-    ensures bound { result ≤ 120 }
-{
-    8 * (width - 1 - place)
-}
-
-// What the lowest bit of a byte counts for.
-fn unit(shift: usize) -> u128
-    requires { shift ≤ 120 }
-    ensures value { result ≡ 2 ^ shift }
-    ensures bound { 0 < result }
-{
-    1 << shift
-}
-
-// The number with another byte, told by its lowest bit: what is above it, the byte, and what is below it. A mask for the
-// byte would be shorter, and harder to prove right.
-fn with_byte(number: u128, shift: usize, byte: u8) -> u128
-    requires { shift ≤ 120 }
-    ensures { result ≡ replaced number shift byte }
-{
-    let unit = unit(shift);
-    (number / unit / 256 * 256 + u128::from(byte)) * unit + number % unit
 }

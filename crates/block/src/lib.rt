@@ -5,3 +5,4 @@ pub mod block;
 pub mod block_of;
 pub mod kinds;
 pub mod laws;
+mod place;

@@ -2,7 +2,7 @@
 use Rattle.std.proofs.Common.{◌+◌, ◌*◌, ◌/◌, ◌%◌, ◌^◌, ◌<◌, arith}
 use mir.Facts.{Fits-lt-pow, Fits-of_lt}
 use Rattle.block.proofs.Digits.{replaced-lt}
-use Rattle.block.proofs.block.with_byte.Goals as goal
+use Rattle.block.proofs.place.BytePlace.put.Goals as goal
 
 fits : (c : goal.After-from)
     → (c.args.number / c.unit-unit.result / 256 * 256 + c.from.result) * c.unit-unit.result
@@ -11,7 +11,7 @@ fits : (c : goal.After-from)
 fits c =
     let small : c.from.result < 256 = omega (arith, Fits-lt-pow c.ranges.byte) in
     let bound = Fits-lt-pow c.ranges.number in
-    replaced-lt c.args.number c.args.shift _ _ c.requires bound small c.unit-unit.ensures.value
+    replaced-lt c.args.number c.args.self.lowest _ _ c.args.self.within bound small c.unit-unit.ensures.value
 
 pub overflow_mul-result-2 : goal.overflow_mul-result-2
 overflow_mul-result-2 c = Fits-of_lt (omega (arith, fits c))
