@@ -35,7 +35,7 @@ fn sealed(rt: HostRuntime) -> Result<(), Fail> {
         cipher: &wide,
         heap: rt.alloc(),
     };
-    let sealed = eax.seal(NONCE, HEADER, &[0; 17])?;
+    let sealed = eax.record(NONCE, HEADER).seal(&[0; 17])?;
     assert_eq!(rt; sealed.ciphertext.as_slice(), CIPHERTEXT);
     assert_eq!(rt; bytes(rt.alloc(), sealed.tag_block)?.as_slice(), TAG_BLOCK);
     Ok(())
@@ -48,7 +48,7 @@ fn refusal(
     header: &[u8],
     tag: &[u8],
 ) -> Result<Option<RecordFault>, Fail> {
-    match eax.open(NONCE, header, CIPHERTEXT, tag)? {
+    match eax.record(NONCE, header).open(CIPHERTEXT, tag)? {
         Ok(message) => {
             assert_eq!(rt; message.as_slice(), [0; 17].as_slice());
             Ok(None)

@@ -20,6 +20,14 @@ pub(crate) struct Eax<'a, C> {
     pub(crate) heap: Global,
 }
 
+// What every record has: its nonce and its header.
+#[derive(Drop)]
+pub(crate) struct Record<'a, C> {
+    eax: &'a Eax<'a, C>,
+    nonce: &'a [u8],
+    header: &'a [u8],
+}
+
 // The bytes of a block, from its first.
 pub(crate) fn bytes<B: Block>(heap: Global, block: B) -> Result<Vec<u8>, AllocError> {
     (0..B::width()).map(|place| block.byte(place)).collect(heap)
@@ -64,7 +72,7 @@ impl<C: Cipher> Eax<'_, C> {
         self.cmac(tweaked.as_slice())
     }
 
-    pub(crate) fn ctr(&self, start: C::Block, string: &[u8]) -> Result<Vec<u8>, AllocError> {
+    fn ctr(&self, start: C::Block, string: &[u8]) -> Result<Vec<u8>, AllocError> {
         let mut counter = start;
         let mut text = Vec::new(self.heap);
         for block in string.chunks(block_len::<C>()) {
@@ -77,27 +85,33 @@ impl<C: Cipher> Eax<'_, C> {
         Ok(text)
     }
 
-    pub(crate) fn tag_block(
-        &self,
-        nonce: &[u8],
-        header: &[u8],
-        ciphertext: &[u8],
-    ) -> Result<C::Block, AllocError> {
+    // The record of a nonce and a header.
+    pub(crate) fn record<'r>(&'r self, nonce: &'r [u8], header: &'r [u8]) -> Record<'r, C> {
+        Record {
+            eax: self,
+            nonce,
+            header,
+        }
+    }
+}
+
+impl<C: Cipher> Record<'_, C> {
+    fn tag_block(&self, ciphertext: &[u8]) -> Result<C::Block, AllocError> {
         Ok(sum(
-            self.omac(0, nonce)?,
-            self.omac(1, header)?,
-            self.omac(2, ciphertext)?,
+            self.eax.omac(0, self.nonce)?,
+            self.eax.omac(1, self.header)?,
+            self.eax.omac(2, ciphertext)?,
         ))
     }
 
-    pub(crate) fn seal(
-        &self,
-        nonce: &[u8],
-        header: &[u8],
-        message: &[u8],
-    ) -> Result<Sealed<C::Block>, AllocError> {
-        let ciphertext = self.ctr(self.omac(0, nonce)?, message)?;
-        let tag_block = self.tag_block(nonce, header, ciphertext.as_slice())?;
+    // CTR from the N-block.
+    fn ctr(&self, string: &[u8]) -> Result<Vec<u8>, AllocError> {
+        self.eax.ctr(self.eax.omac(0, self.nonce)?, string)
+    }
+
+    pub(crate) fn seal(&self, message: &[u8]) -> Result<Sealed<C::Block>, AllocError> {
+        let ciphertext = self.ctr(message)?;
+        let tag_block = self.tag_block(ciphertext.as_slice())?;
         Ok(Sealed {
             ciphertext,
             tag_block,
@@ -106,18 +120,16 @@ impl<C: Cipher> Eax<'_, C> {
 
     pub(crate) fn open(
         &self,
-        nonce: &[u8],
-        header: &[u8],
         ciphertext: &[u8],
         tag: &[u8],
     ) -> Result<Result<Vec<u8>, RecordFault>, AllocError> {
         if !is_tag_len(C::N, tag.len()) {
             return Ok(Err(RecordFault::TagLength));
         }
-        let block = bytes(self.heap, self.tag_block(nonce, header, ciphertext)?)?;
+        let block = bytes(self.eax.heap, self.tag_block(ciphertext)?)?;
         if !block.as_slice().starts_with(tag) {
             return Ok(Err(RecordFault::TagWrong));
         }
-        Ok(Ok(self.ctr(self.omac(0, nonce)?, ciphertext)?))
+        Ok(Ok(self.ctr(ciphertext)?))
     }
 }

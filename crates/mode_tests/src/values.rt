@@ -23,14 +23,15 @@ fn check_bytes<B: Block>(
 }
 
 fn check_sealed<C: Cipher>(rt: &impl Abort, eax: &Eax<'_, C>, row: SealRow) -> Result<(), Fail> {
-    let sealed = eax.seal(row.nonce, row.header, row.message)?;
+    let sealed = eax.record(row.nonce, row.header).seal(row.message)?;
     assert_eq!(rt; sealed.ciphertext.as_slice(), row.ciphertext);
     check_bytes(rt, eax.heap, sealed.tag_block, row.tag_block)
 }
 
 fn check_opened<C: Cipher>(rt: &impl Abort, eax: &Eax<'_, C>, row: OpenRow) -> Result<(), Fail> {
     match (
-        eax.open(row.nonce, row.header, row.ciphertext, row.tag)?,
+        eax.record(row.nonce, row.header)
+            .open(row.ciphertext, row.tag)?,
         row.answer,
     ) {
         (Ok(opened), Ok(message)) => {
