@@ -1,5 +1,5 @@
 -- A message piece carries the run on, accepted or refused, and what it put out is faithful after every run.
-use Rattle.std.proofs.Common.{ℕ, ◌+◌, ◌<◌, List, [], length, take, Ok, Err, Result, refl, arith, rules}
+use Rattle.std.proofs.Common.{ℕ, ◌+◌, ◌<◌, List, length, Ok, Err, Result, refl, arith, rules}
 use mir.Facts.{Fits-lt-pow}
 use Rattle.wire.specs.Limits.{message_max}
 use Rattle.wire.specs.declared.fault.RecordFault.{RecordFault}
@@ -7,9 +7,8 @@ use Rattle.wire.specs.declared.fault.RecordFault.TheVariants.{BufferTooShort, Me
 use Rattle.block.specs.Form.{Form}
 use Rattle.block.specs.Lawful.{Lawful}
 use Rattle.block.specs.ByBytes.{IsString}
-use Rattle.key.specs.Headers.{joined}
-use Rattle.key.specs.declared.key.Key.{Key}
 use Rattle.seal.specs.Steps.{Refused, short, long, Sealed, Sealing}
+use Rattle.seal.specs.Transcripts.{Origin, Transcript, with_message}
 use Rattle.seal.specs.Runs.{AtMessage, sealed, MessageAnswer, Faithful}
 use Rattle.seal.specs.declared.message.MessageStage.{MessageStage}
 use Rattle.seal.proofs.Held.{message_held, message_answer, faithful_message}
@@ -18,22 +17,16 @@ use Rattle.seal.proofs.message.MessageStage.piece.Goals as goal
 -- what each way out of the call owes beside its step
 module _ {C B : Type 0} (form : Form B) (lawful : Lawful form) (F : C → B → B) (s t : MessageStage C B) (piece : List ℕ)
     (string : IsString piece) (out filled : List ℕ) (r : Result ℕ RecordFault) (step : Sealing form F s piece out r t filled)
-    (cipher : C) (last : List ℕ) (key : Key C B) (nonce header message ciphertext : List ℕ)
-    (before : AtMessage form F cipher last key nonce header message ciphertext s) where
-  abbrev text : List ℕ
-  text = joined ciphertext (take (length piece) filled) r
-
-  after : AtMessage form F cipher last key nonce header (joined message piece r) text t
+    (origin : Origin C B) (so_far : Transcript) (before : AtMessage form F origin so_far s) where
+  after : AtMessage form F origin (with_message so_far piece filled r) t
   after = sealed before piece string out filled r step
 
-  answers : MessageAnswer message piece out r
+  answers : MessageAnswer so_far.message piece out r
   answers =
-      message_answer form lawful F cipher last key nonce header message ciphertext s t piece out filled r
-      (message_held form lawful F cipher last key nonce header message ciphertext s before)
-      step
+      message_answer form lawful F origin so_far s t piece out filled r (message_held form lawful F origin before) step
 
-  faithful : Faithful form F cipher nonce header (joined message piece r) text []
-  faithful = faithful_message form lawful F cipher last key nonce header (joined message piece r) text t after
+  faithful : Faithful form F origin.cipher (with_message so_far piece filled r)
+  faithful = faithful_message form lawful F origin (message_held form lawful F origin after)
 
 pub returns : goal.returns
 returns g c =
