@@ -48,9 +48,8 @@ impl<C: Cipher> HeaderStage<C> {
         ensures step { Leaves C.Block.form C.f self result }
         ensures run { (origin : Origin C C.Block) (so_far : Transcript) → AtHeader C.Block.form C.f origin so_far self → AtMessage C.Block.form C.f origin so_far result }
     {
-        let HeaderStage { key, nonce, header } = self;
-        let header = header.end(key.cipher());
-        MessageStage::new(key, nonce, header)
+        let header = self.header.end(self.key.cipher());
+        MessageStage::new(self.key, self.nonce, header)
     }
 
     // Gives the record up, and the key back.
@@ -58,11 +57,6 @@ impl<C: Cipher> HeaderStage<C> {
         ensures value { result ≡ self.key }
         ensures run { (origin : Origin C C.Block) (so_far : Transcript) → AtHeader C.Block.form C.f origin so_far self → GivenBack C.Block.form C.f origin result }
     {
-        let HeaderStage {
-            key,
-            nonce: _,
-            header: _,
-        } = self;
-        key
+        self.key
     }
 }

@@ -9,7 +9,7 @@ use crate::tag::TagStage;
 use block::block::Block;
 use cipher::cipher::Cipher;
 use key::key::Key;
-use key::length::grown;
+use key::length::Length;
 use stream::chain::Chain;
 use stream::keystream::Keystream;
 use stream::omac::omac;
@@ -25,7 +25,7 @@ pub struct MessageStage<C: Cipher> {
     keystream: Keystream<C::Block>,
     // The MAC of the ciphertext.
     mac: Chain<C::Block>,
-    count: usize,
+    count: Length<MESSAGE_MAX>,
 }
 
 impl<C: Cipher> MessageStage<C> {
@@ -48,7 +48,7 @@ impl<C: Cipher> MessageStage<C> {
             header,
             keystream: Keystream::starting_at(nonce),
             mac: Chain::holding(Tweak::Ciphertext.block()),
-            count: 0,
+            count: Length::zero(),
         }
     }
 
@@ -62,14 +62,14 @@ impl<C: Cipher> MessageStage<C> {
         if out.len() < piece.len() {
             return Err(RecordFault::BufferTooShort);
         }
-        let Some(count) = grown(self.count, piece.len(), MESSAGE_MAX) else {
-            return Err(RecordFault::MessageTooLong);
-        };
+        let count = self
+            .count
+            .grow(piece.len())
+            .ok_or(RecordFault::MessageTooLong)?;
         let front = &mut out[..piece.len()];
         front.copy_from_slice(piece);
         self.keystream.apply(self.key.cipher(), front);
         self.mac.feed(self.key.cipher(), front);
-        self.count = count;
         Ok(count)
     }
 
@@ -78,18 +78,10 @@ impl<C: Cipher> MessageStage<C> {
         ensures step { Closes C.Block.form C.f self result }
         ensures run { (origin : Origin C C.Block) (so_far : Transcript) → AtMessage C.Block.form C.f origin so_far self → AtTag C.Block.form C.f origin so_far result }
     {
-        let MessageStage {
-            key,
-            nonce,
-            header,
-            keystream: _,
-            mac,
-            count: _,
-        } = self;
-        let ciphertext = mac.finish(key.cipher());
+        let ciphertext = self.mac.finish(self.key.cipher());
         TagStage {
-            key,
-            block: nonce.xor(header).xor(ciphertext),
+            key: self.key,
+            block: self.nonce.xor(self.header).xor(ciphertext),
         }
     }
 
@@ -98,14 +90,6 @@ impl<C: Cipher> MessageStage<C> {
         ensures value { result ≡ self.key }
         ensures run { (origin : Origin C C.Block) (so_far : Transcript) → AtMessage C.Block.form C.f origin so_far self → GivenBack C.Block.form C.f origin result }
     {
-        let MessageStage {
-            key,
-            nonce: _,
-            header: _,
-            keystream: _,
-            mac: _,
-            count: _,
-        } = self;
-        key
+        self.key
     }
 }

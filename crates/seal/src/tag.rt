@@ -37,7 +37,6 @@ impl<C: Cipher> TagStage<C> {
         ensures value { result ≡ self.key }
         ensures run { (origin : Origin C C.Block) (so_far : Transcript) → AtTag C.Block.form C.f origin so_far self → GivenBack C.Block.form C.f origin result }
     {
-        let TagStage { key, block: _ } = self;
-        key
+        self.key
     }
 }
