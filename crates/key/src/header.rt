@@ -2,7 +2,7 @@
 ghost use Rattle.std.specs.Prelude.{◌≡◌};
 ghost use Rattle.key.specs.Headers.{no_header, Joins, ended};
 
-use crate::length::grown;
+use crate::length::Length;
 use block::block::Block;
 use cipher::cipher::Cipher;
 use stream::chain::Chain;
@@ -13,7 +13,7 @@ use wire::limits::HEADER_MAX;
 #[derive(Drop)]
 pub struct Header<B> {
     pub(crate) chain: Chain<B>,
-    pub(crate) count: usize,
+    pub(crate) count: Length<HEADER_MAX>,
 }
 
 impl<B: Block> Header<B> {
@@ -22,7 +22,7 @@ impl<B: Block> Header<B> {
     {
         Header {
             chain: Chain::holding(Tweak::Header.block()),
-            count: 0,
+            count: Length::zero(),
         }
     }
 
@@ -34,11 +34,11 @@ impl<B: Block> Header<B> {
     ) -> Result<usize, RecordFault>
         ensures step { Joins B.form (C.f cipher.now) self.old piece.now result self.new }
     {
-        let Some(count) = grown(self.count, piece.len(), HEADER_MAX) else {
-            return Err(RecordFault::HeaderTooLong);
-        };
+        let count = self
+            .count
+            .grow(piece.len())
+            .ok_or(RecordFault::HeaderTooLong)?;
         self.chain.feed(cipher, piece);
-        self.count = count;
         Ok(count)
     }
 
@@ -46,7 +46,6 @@ impl<B: Block> Header<B> {
     pub fn end<C: Cipher<Block = B>>(self, cipher: &C) -> B
         ensures { result ≡ ended B.form (C.f cipher.now) self }
     {
-        let Header { chain, count: _ } = self;
-        chain.finish(cipher)
+        self.chain.finish(cipher)
     }
 }

@@ -54,10 +54,6 @@ impl<C: Cipher> Key<C> {
         ensures value { result ≡ self.cipher }
         ensures run { (cipher : C) (last : List ℕ) → Keys C.Block.form C.f cipher last self → result ≡ cipher }
     {
-        let Key {
-            cipher,
-            prepared: _,
-        } = self;
-        cipher
+        self.cipher
     }
 }

@@ -1,13 +1,42 @@
-// The length of a string that comes in pieces.
-ghost use Rattle.std.specs.Prelude.{◌≡◌};
+// The length of a string that comes in pieces, and never grows past its limit.
+ghost use Rattle.std.specs.Prelude.{◌≡◌, unwrap_or};
 ghost use Rattle.key.specs.Lengths.{grown_to};
 
-// The length so far with a piece more, if it is within the limit.
-pub fn grown(so_far: usize, piece: usize, limit: usize) -> Option<usize>
-    ensures { result ≡ grown_to so_far piece limit }
-{
-    if piece > limit || so_far > limit - piece {
-        return None;
+use std::marker::Model;
+
+#[derive(Drop)]
+pub struct Length<const MAX: usize> {
+    count: usize,
+}
+
+// Clauses see the count.
+impl<const MAX: usize> Model for Length<MAX> {
+    ghost use Rattle.std.specs.Prelude.{ℕ, ◌≤◌};
+
+    ghost Value = { ℕ };
+
+    ghost view = { λ length. length.count };
+
+    ghost invariant = { λ length. length.count ≤ MAX };
+}
+
+impl<const MAX: usize> Length<MAX> {
+    // That of a string of which no piece has come.
+    pub fn zero() -> Length<MAX>
+        ensures { result ≡ 0 }
+    {
+        Length { count: 0 }
     }
-    Some(so_far + piece)
+
+    // Grows by a piece and answers the length so far, if that is within the limit.
+    pub fn grow(&mut self, piece: usize) -> Option<usize>
+        ensures answer { result ≡ grown_to self.old piece MAX }
+        ensures after { self.new ≡ unwrap_or result self.old }
+    {
+        if piece > MAX - self.count {
+            return None;
+        }
+        self.count += piece;
+        Some(self.count)
+    }
 }

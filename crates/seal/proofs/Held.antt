@@ -1,7 +1,8 @@
 -- What a stage holds after every run that leads to it, and the rule: one induction over the calls, by the laws of the
 -- streams.
-use Rattle.std.proofs.Common.{◌≡◌, ℕ, ◌+◌, ◌≤◌, List, [], ◌++◌, length, take, Ok, Err, Result, sym, refl, ap, ◌∙◌, ap₂, arith}
+use Rattle.std.proofs.Common.{◌≡◌, ℕ, ◌+◌, ◌≤◌, List, [], ◌++◌, length, take, Ok, Err, Result, sym, refl, ap, ◌∙◌, ap₂, subst, arith}
 use Rattle.std.proofs.lemmas.List.{length-append, length-take-le, take_at}
+use Rattle.std.proofs.lemmas.List.Elements.{All-nil, All-cons, All-same}
 use Rattle.std.proofs.lemmas.Bool.{and_parts, leb-true}
 use Rattle.wire.specs.Limits.{is_tag_len_of}
 use Rattle.wire.specs.declared.fault.RecordFault.{RecordFault}
@@ -14,79 +15,88 @@ use Rattle.mode.specs.Strings.{nonce_block, header_block, ciphertext_block, tag_
 use Rattle.mode.proofs.StringParts.{IsString-append}
 use Rattle.stream.specs.Chaining.{holding, fed, finished}
 use Rattle.stream.specs.Counting.{starting_at, enciphered, advanced}
+use Rattle.stream.specs.declared.keystream.Keystream.{Keystream}
 use Rattle.stream.proofs.Chained.{chains}
 use Rattle.stream.proofs.Counting.{counts, length-enciphered}
-use Rattle.key.specs.Headers.{joined, ended}
+use Rattle.key.specs.Headers.{ended}
 use Rattle.key.specs.Runs.{Keys, served}
 use Rattle.key.specs.declared.key.Key.{Key}
 use Rattle.key.proofs.Joining.{header_of, none_yet, header_block_lem, after_join}
 use Rattle.key.proofs.Kept.{kept}
 use Rattle.seal.specs.Steps.{Joining, NoMessage, Sealing, Tagging}
+use Rattle.seal.specs.Transcripts.{Origin, Transcript, unsealed, with_header, with_message, with_tag}
 use Rattle.seal.specs.Runs.{AtHeader, begun, pieced, AtMessage, begun_prepared, left, sealed, AtTag, closed, tagged}
-use Rattle.seal.specs.Runs.{Ended, GivenBack, AllTags, Faithful, with_tag, HeaderAnswer, MessageAnswer}
-use Rattle.stream.specs.declared.keystream.Keystream.{Keystream}
+use Rattle.seal.specs.Runs.{Ended, GivenBack, IsTag, Faithful, HeaderAnswer, MessageAnswer}
 use Rattle.seal.specs.declared.header.HeaderStage.{HeaderStage}
 use Rattle.seal.specs.declared.message.MessageStage.{MessageStage}
 use Rattle.seal.specs.declared.tag.TagStage.{TagStage}
 
-module _ {C B : Type 0} (form : Form B) (lawful : Lawful form) (F : C → B → B) (cipher : C) (last : List ℕ) (key : Key C B) where
+module _ {C B : Type 0} (form : Form B) (lawful : Lawful form) (F : C → B → B) (origin : Origin C B) where
+  abbrev G : B → B
+  G = F origin.cipher
+
   -- a stage's key, after any run: the one that the record took in
   pub record OnKey (own : Key C B) : Type 0 where
-    pub run : Keys form F cipher last key
-    pub same : own ≡ key
+    pub run : Keys form F origin.cipher origin.prepared origin.key
+    pub same : own ≡ origin.key
 
-  of : (own : Key C B) → OnKey own → own.cipher ≡ cipher
-  of own k = ap (λ x. x.cipher) k.same ∙ (kept form F cipher last key k.run).same
+  of : {own : Key C B} → OnKey own → own.cipher ≡ origin.cipher
+  of k = ap (λ x. x.cipher) k.same ∙ (kept form F _ _ _ k.run).same
+
+  -- a step that leaves the key as it is
+  same_key : {own after : Key C B} → OnKey own → after ≡ own → OnKey after
+  same_key k same = record { run = k.run; same = same ∙ k.same }
 
   -- ## the header stage
-  pub record HeaderHeld (nonce header : List ℕ) (s : HeaderStage C B) : Type 0 where
+  pub record HeaderHeld (so_far : Transcript) (s : HeaderStage C B) : Type 0 where
     pub on : OnKey s.key
-    pub block : s.nonce ≡ nonce_block form (F cipher) nonce
-    pub held : s.header ≡ header_of form (F cipher) header
+    pub block : s.nonce ≡ nonce_block form G so_far.nonce
+    pub held : s.header ≡ header_of form G so_far.header
+    pub early : so_far ≡ unsealed so_far.nonce so_far.header
 
-  pub header_held : (nonce header : List ℕ) (s : HeaderStage C B)
-      → AtHeader form F cipher last key nonce header s
-      → HeaderHeld nonce header s
-  header_held nonce header s (begun keys n b) =
+  pub header_held : {so_far : Transcript} {s : HeaderStage C B} → AtHeader form F origin so_far s → HeaderHeld so_far s
+  header_held (begun keys n b) =
       record {
         on = record { run = keys; same = b.taken };
-        block = b.block ∙ ap (λ c. nonce_block form (F c) nonce) (kept form F cipher last key keys).same;
-        held = b.none ∙ none_yet form (F cipher);
+        block = b.block ∙ ap (λ c. nonce_block form (F c) n) (kept form F _ _ _ keys).same;
+        held = b.none ∙ none_yet form G;
+        early = refl;
       }
-  header_held nonce header t (pieced {header = H} {s = s} run piece r p) =
-      let h = header_held nonce H s run in
+  header_held {s = t} (pieced {so_far = so_far} {s = s} run piece r p) =
+      let h = header_held run in
       record {
-        on = record { run = h.on.run; same = p.same ∙ h.on.same };
+        on = same_key h.on p.same;
         block = p.block ∙ h.block;
-        held = after_join form (F cipher) lawful H piece r t.header
-            (rw (of s.key h.on) at (rw h.held at p.header));
+        held = after_join form G lawful so_far.header piece r t.header (rw (of h.on) at (rw h.held at p.header));
+        early = ap (λ x. with_header x piece r) h.early;
       }
 
   -- ## the message stage
   abbrev start : List ℕ → Keystream B
-  start nonce = starting_at form (nonce_block form (F cipher) nonce)
+  start nonce = starting_at form (nonce_block form G nonce)
 
-  pub record MessageHeld (nonce header message ciphertext : List ℕ) (s : MessageStage C B) : Type 0 where
+  pub record MessageHeld (so_far : Transcript) (s : MessageStage C B) : Type 0 where
     pub on : OnKey s.key
-    pub nonce_block : s.nonce ≡ nonce_block form (F cipher) nonce
-    pub header_block : s.header ≡ header_block form (F cipher) header
-    pub counter : s.keystream ≡ advanced form (F cipher) (start nonce) message
-    pub chain : s.mac ≡ fed form (F cipher) (holding form (end_block form 2)) ciphertext
-    pub count : s.count ≡ length message
-    pub string : IsString message
-    pub text : ciphertext ≡ enciphered form (F cipher) (start nonce) message
+    pub nonce_block : s.nonce ≡ nonce_block form G so_far.nonce
+    pub header_block : s.header ≡ header_block form G so_far.header
+    pub counter : s.keystream ≡ advanced form G (start so_far.nonce) so_far.message
+    pub chain : s.mac ≡ fed form G (holding form (end_block form 2)) so_far.ciphertext
+    pub count : s.count ≡ length so_far.message
+    pub string : IsString so_far.message
+    pub text : so_far.ciphertext ≡ enciphered form G (start so_far.nonce) so_far.message
+    pub untagged : so_far.tags ≡ []
 
   -- both ways into the stage
-  no_message : (nonce header : List ℕ) (N H : B) (own : Key C B) (s : MessageStage C B)
+  no_message : (nonce header : List ℕ) {N H : B} {own : Key C B} {s : MessageStage C B}
       → OnKey own
-      → N ≡ nonce_block form (F cipher) nonce
-      → H ≡ header_block form (F cipher) header
+      → N ≡ nonce_block form G nonce
+      → H ≡ header_block form G header
       → NoMessage form F own N H s
-      → MessageHeld nonce header [] [] s
+      → MessageHeld (unsealed nonce header) s
   unfolding fed advanced enciphered
-  no_message nonce header N H own s on n h p =
+  no_message nonce header on n h p =
       record {
-        on = record { run = on.run; same = p.taken ∙ on.same };
+        on = same_key on p.taken;
         nonce_block = p.nonce_block ∙ n;
         header_block = p.header_block ∙ h;
         counter = p.counter ∙ ap (starting_at form) n;
@@ -94,161 +104,138 @@ module _ {C B : Type 0} (form : Form B) (lawful : Lawful form) (F : C → B → 
         count = p.count;
         string = λ i. omega arith;
         text = refl;
+        untagged = refl;
       }
 
-  after_piece : (nonce header message ciphertext : List ℕ) (s t : MessageStage C B) (piece : List ℕ)
+  after_piece : (so_far : Transcript) (s t : MessageStage C B) (piece : List ℕ)
       → IsString piece
       → (out filled : List ℕ) (r : Result ℕ RecordFault)
       → Sealing form F s piece out r t filled
-      → MessageHeld nonce header message ciphertext s
-      → MessageHeld nonce header (joined message piece r) (joined ciphertext (take (length piece) filled) r) t
-  after_piece nonce header message ciphertext s t piece string out filled (Ok n) p h =
-      let G = F cipher in
-      let c = of s.key h.on in
-      let sealed : enciphered form (F s.key.cipher) s.keystream piece
-      ≡ enciphered form G (advanced form G (start nonce) message) piece =
+      → MessageHeld so_far s
+      → MessageHeld (with_message so_far piece filled r) t
+  after_piece so_far s t piece string out filled (Ok n) p h =
+      let M = so_far.message in
+      let S = start so_far.nonce in
+      let c = of h.on in
+      let sealed : enciphered form (F s.key.cipher) s.keystream piece ≡ enciphered form G (advanced form G S M) piece =
       ap₂ (λ c k. enciphered form (F c) k piece) c h.counter in
-      let put : take (length piece) filled ≡ enciphered form G (advanced form G (start nonce) message) piece =
+      let put : take (length piece) filled ≡ enciphered form G (advanced form G S M) piece =
       ap (take (length piece)) p.put
       ∙ take_at _ _ (length piece) (length-enciphered form lawful (F s.key.cipher) s.keystream piece)
       ∙ sealed in
       record {
-        on = record { run = h.on.run; same = p.same ∙ h.on.same };
+        on = same_key h.on p.same;
         nonce_block = p.nonce_block ∙ h.nonce_block;
         header_block = p.header_block ∙ h.header_block;
         counter = p.counter
             ∙ ap₂ (λ c k. advanced form (F c) k piece) c h.counter
-            ∙ (counts form lawful G).moved (start nonce) message piece;
+            ∙ (counts form lawful G).moved S M piece;
         chain = p.chain
             ∙ ap₂ (λ c k. fed form (F c) k (enciphered form (F s.key.cipher) s.keystream piece)) c h.chain
-            ∙ ap (fed form G (fed form G (holding form (end_block form 2)) ciphertext)) (sealed ∙ sym put)
-            ∙ (chains form lawful G).joined (holding form (end_block form 2)) ciphertext (take (length piece) filled);
-        count = p.count ∙ p.counted ∙ ap (λ k. k + length piece) h.count ∙ sym (length-append message piece);
-        string = IsString-append message piece h.string string;
-        text = ap₂ ◌++◌ h.text put ∙ sym ((counts form lawful G).joined (start nonce) message piece);
+            ∙ ap (fed form G (fed form G (holding form (end_block form 2)) so_far.ciphertext)) (sealed ∙ sym put)
+            ∙ (chains form lawful G).joined (holding form (end_block form 2)) so_far.ciphertext (take (length piece) filled);
+        count = p.count ∙ p.counted ∙ ap (λ k. k + length piece) h.count ∙ sym (length-append M piece);
+        string = IsString-append M piece h.string string;
+        text = ap₂ ◌++◌ h.text put ∙ sym ((counts form lawful G).joined S M piece);
+        untagged = h.untagged;
       }
-  after_piece nonce header message ciphertext s t piece string out filled (Err e) p h = rw p.same h
+  after_piece so_far s t piece string out filled (Err e) p h = rw p.same h
 
-  pub message_held : (nonce header message ciphertext : List ℕ) (s : MessageStage C B)
-      → AtMessage form F cipher last key nonce header message ciphertext s
-      → MessageHeld nonce header message ciphertext s
-  message_held nonce header message ciphertext s (begun_prepared keys n p) =
-      let k = kept form F cipher last key keys in
-      no_message nonce header _ _ key s
+  pub message_held : {so_far : Transcript} {s : MessageStage C B} → AtMessage form F origin so_far s → MessageHeld so_far s
+  message_held (begun_prepared keys n p) =
+      let k = kept form F _ _ _ keys in
+      no_message n origin.prepared
       (record { run = keys; same = refl })
-      (ap (λ c. nonce_block form (F c) nonce) k.same)
+      (ap (λ c. nonce_block form (F c) n) k.same)
       k.block
       p
-  message_held nonce header message ciphertext t (left {s = s} run p) =
-      let h = header_held nonce header s run in
-      no_message nonce header _ _ s.key t
+  message_held {s = t} (left {so_far = so_far} run p) =
+      let h = header_held run in
+      subst (λ x. MessageHeld x t) (sym h.early)
+      (no_message so_far.nonce so_far.header
       h.on
       h.block
-      (ap₂ (λ c x. ended form (F c) x) (of s.key h.on) h.held ∙ header_block_lem form (F cipher) lawful header)
-      p
-  message_held nonce header message ciphertext t (sealed {message = M} {ciphertext = X} {s = s} run piece string out filled r p) =
-      after_piece nonce header M X s t piece string out filled r p (message_held nonce header M X s run)
+      (ap₂ (λ c x. ended form (F c) x) (of h.on) h.held ∙ header_block_lem form G lawful so_far.header)
+      p)
+  message_held {s = t} (sealed {so_far = so_far} {s = s} run piece string out filled r p) =
+      after_piece so_far s t piece string out filled r p (message_held run)
 
   -- ## the tag stage
-  pub record TagHeld (nonce header message ciphertext : List ℕ) (t : TagStage C B) : Type 0 where
+  pub record TagHeld (so_far : Transcript) (t : TagStage C B) : Type 0 where
     pub on : OnKey t.key
-    pub sum : t.block ≡ tag_block_of form (F cipher) nonce header ciphertext
-    pub text : ciphertext ≡ ciphertext_of form (F cipher) nonce message
+    pub sum : t.block ≡ tag_block_of form G so_far.nonce so_far.header so_far.ciphertext
+    pub faithful : Faithful form F origin.cipher so_far
 
-  text_of : (nonce header message ciphertext : List ℕ) (s : MessageStage C B)
-      → MessageHeld nonce header message ciphertext s
-      → ciphertext ≡ ciphertext_of form (F cipher) nonce message
+  -- the rule, before any tag
+  pub faithful_message : {so_far : Transcript} {s : MessageStage C B}
+      → MessageHeld so_far s
+      → Faithful form F origin.cipher so_far
   unfolding ciphertext_of
-  text_of nonce header message ciphertext s h =
-      h.text ∙ (counts form lawful (F cipher)).whole (nonce_block form (F cipher) nonce) message h.string
-
-  pub tag_held : (nonce header message ciphertext : List ℕ) (tags : List (List ℕ)) (t : TagStage C B)
-      → AtTag form F cipher last key nonce header message ciphertext tags t
-      → TagHeld nonce header message ciphertext t
-  unfolding tag_block_of ciphertext_block
-  tag_held nonce header message ciphertext tags t (closed {s = s} run p) =
-      let G = F cipher in
-      let h = message_held nonce header message ciphertext s run in
+  faithful_message {so_far = so_far} h =
       record {
-        on = record { run = h.on.run; same = p.same ∙ h.on.same };
+        text = h.text ∙ (counts form lawful G).whole (nonce_block form G so_far.nonce) so_far.message h.string;
+        tagged = All-same (IsTag form F origin.cipher so_far) _ _ h.untagged (All-nil _);
+      }
+
+  after_tag : (so_far : Transcript) (t : TagStage C B) (out filled : List ℕ) (r : Result ℕ RecordFault)
+      → Tagging form F t out r filled
+      → TagHeld so_far t
+      → TagHeld (with_tag so_far filled r) t
+  unfolding tag_of
+  after_tag so_far t out filled (Ok n) p h =
+      let short : length out ≤ form.size = leb-true (length out) form.size (and_parts _ _ p.fits).1 in
+      let long : length filled ≡ length out =
+      ap length p.put ∙ length-take-le (length out) _ (omega (arith, length-bytes form lawful t.block)) in
+      let tag : IsTag form F origin.cipher so_far filled = (
+        ap (is_tag_len_of form.size) long ∙ p.fits,
+        p.put ∙ ap₂ (λ u b. take u (bytes_of form b)) (sym long) h.sum,
+      ) in
+      record {
+        on = h.on;
+        sum = h.sum;
+        faithful = record {
+          text = h.faithful.text;
+          tagged = All-cons (IsTag form F origin.cipher so_far) filled so_far.tags tag h.faithful.tagged;
+        };
+      }
+  after_tag so_far t out filled (Err e) p h = h
+
+  pub tag_held : {so_far : Transcript} {t : TagStage C B} → AtTag form F origin so_far t → TagHeld so_far t
+  unfolding tag_block_of ciphertext_block
+  tag_held (closed {so_far = so_far} {s = s} run p) =
+      let h = message_held run in
+      record {
+        on = same_key h.on p.same;
         sum = p.sum
             ∙ ap₂ (λ a b. xored form (xored form a b) (finished form (F s.key.cipher) s.mac))
             h.nonce_block
             h.header_block
-            ∙ ap (λ a. xored form (xored form (nonce_block form G nonce) (header_block form G header)) a)
-            (ap₂ (λ c m. finished form (F c) m) (of s.key h.on) h.chain
-            ∙ (chains form lawful G).tweaked 2 ciphertext);
-        text = text_of nonce header message ciphertext s h;
+            ∙ ap (λ a. xored form (xored form (nonce_block form G so_far.nonce) (header_block form G so_far.header)) a)
+            (ap₂ (λ c m. finished form (F c) m) (of h.on) h.chain
+            ∙ (chains form lawful G).tweaked 2 so_far.ciphertext);
+        faithful = faithful_message h;
       }
-  tag_held nonce header message ciphertext tags t (tagged {tags = Ts} run out filled r p) =
-      tag_held nonce header message ciphertext Ts t run
-
-  -- ## the rule
-  pub faithful_message : (nonce header message ciphertext : List ℕ) (s : MessageStage C B)
-      → AtMessage form F cipher last key nonce header message ciphertext s
-      → Faithful form F cipher nonce header message ciphertext []
-  faithful_message nonce header message ciphertext s run =
-      record { text = text_of nonce header message ciphertext s (message_held nonce header message ciphertext s run); tagged = tt }
-
-  more_tags : (nonce header message ciphertext : List ℕ) (tags : List (List ℕ)) (t : TagStage C B) (out filled : List ℕ)
-      (r : Result ℕ RecordFault)
-      → TagHeld nonce header message ciphertext t
-      → Tagging form F t out r filled
-      → AllTags form F cipher nonce header ciphertext tags
-      → AllTags form F cipher nonce header ciphertext (with_tag tags filled r)
-  unfolding tag_of
-  more_tags nonce header message ciphertext tags t out filled (Ok n) h p all =
-      let short : length out ≤ form.size = leb-true (length out) form.size (and_parts _ _ p.fits).1 in
-      let long : length filled ≡ length out =
-      ap length p.put ∙ length-take-le (length out) _ (omega (arith, length-bytes form lawful t.block)) in (
-        ap (is_tag_len_of form.size) long ∙ p.fits,
-        p.put ∙ ap₂ (λ u b. take u (bytes_of form b)) (sym long) h.sum,
-        all,
-      )
-  more_tags nonce header message ciphertext tags t out filled (Err e) h p all = all
-
-  all_tags : (nonce header message ciphertext : List ℕ) (tags : List (List ℕ)) (t : TagStage C B)
-      → AtTag form F cipher last key nonce header message ciphertext tags t
-      → AllTags form F cipher nonce header ciphertext tags
-  all_tags nonce header message ciphertext tags t (closed run p) = tt
-  all_tags nonce header message ciphertext tags t (tagged {tags = Ts} run out filled r p) =
-      more_tags nonce header message ciphertext Ts t out filled r
-      (tag_held nonce header message ciphertext Ts t run)
-      p
-      (all_tags nonce header message ciphertext Ts t run)
-
-  pub faithful_tag : (nonce header message ciphertext : List ℕ) (tags : List (List ℕ)) (t : TagStage C B)
-      → AtTag form F cipher last key nonce header message ciphertext tags t
-      → Faithful form F cipher nonce header message ciphertext tags
-  faithful_tag nonce header message ciphertext tags t run =
-      record {
-        text = (tag_held nonce header message ciphertext tags t run).text;
-        tagged = all_tags nonce header message ciphertext tags t run;
-      }
+  tag_held {t = t} (tagged {so_far = so_far} run out filled r p) = after_tag so_far t out filled r p (tag_held run)
 
   -- ## what is given back and what is answered
-  pub given_back : (own : Key C B)
-      → OnKey own
-      → Ended form F cipher last key own
-      → GivenBack form F cipher last key own
-  given_back own k e = record { ended = e; same = k.same; run = served k.run k.same }
+  pub given_back : {own : Key C B} → OnKey own → Ended form F origin own → GivenBack form F origin own
+  given_back k e = record { ended = e; same = k.same; run = served k.run k.same }
 
-  pub header_answer : (nonce header : List ℕ) (s t : HeaderStage C B) (piece : List ℕ) (r : Result ℕ RecordFault)
-      → HeaderHeld nonce header s
+  pub header_answer : (so_far : Transcript) (s t : HeaderStage C B) (piece : List ℕ) (r : Result ℕ RecordFault)
+      → HeaderHeld so_far s
       → Joining form F s piece r t
-      → HeaderAnswer header piece r
-  header_answer nonce header s t piece (Ok n) h p =
-      let count : s.header.count ≡ length header = ap (λ x. x.count) h.held in
-      (omega (arith, p.header.counted, length-append header piece), p.header.within)
-  header_answer nonce header s t piece (Err e) h p =
-      let count : s.header.count ≡ length header = ap (λ x. x.count) h.held in
-      (p.header.number, omega (arith, p.header.past, length-append header piece))
+      → HeaderAnswer so_far.header piece r
+  header_answer so_far s t piece (Ok n) h p =
+      let count : s.header.count ≡ length so_far.header = ap (λ x. x.count) h.held in
+      (omega (arith, p.header.counted, length-append so_far.header piece), p.header.within)
+  header_answer so_far s t piece (Err e) h p =
+      let count : s.header.count ≡ length so_far.header = ap (λ x. x.count) h.held in
+      (p.header.number, omega (arith, p.header.past, length-append so_far.header piece))
 
-  pub message_answer : (nonce header message ciphertext : List ℕ) (s t : MessageStage C B) (piece out filled : List ℕ)
-      (r : Result ℕ RecordFault)
-      → MessageHeld nonce header message ciphertext s
+  pub message_answer : (so_far : Transcript) (s t : MessageStage C B) (piece out filled : List ℕ) (r : Result ℕ RecordFault)
+      → MessageHeld so_far s
       → Sealing form F s piece out r t filled
-      → MessageAnswer message piece out r
-  message_answer nonce header message ciphertext s t piece out filled (Ok n) h p =
-      (omega (arith, h.count, p.counted, length-append message piece), p.within, p.room)
-  message_answer nonce header message ciphertext s t piece out filled (Err e) h p = rw h.count at p.why
+      → MessageAnswer so_far.message piece out r
+  message_answer so_far s t piece out filled (Ok n) h p =
+      (omega (arith, h.count, p.counted, length-append so_far.message piece), p.within, p.room)
+  message_answer so_far s t piece out filled (Err e) h p = rw h.count at p.why

@@ -1,8 +1,8 @@
 // The last stage of a sealing: tags are given out.
-ghost use Rattle.std.specs.Prelude.{◌≡◌, ℕ, List};
-ghost use Rattle.key.specs.declared.key.Key.{Key as KeyOf};
-ghost use Rattle.seal.specs.Runs.{AtTag, GivenBack, with_tag, Faithful};
+ghost use Rattle.std.specs.Prelude.{◌≡◌};
 ghost use Rattle.seal.specs.Steps.{Tagging};
+ghost use Rattle.seal.specs.Transcripts.{Origin, Transcript, with_tag};
+ghost use Rattle.seal.specs.Runs.{AtTag, GivenBack, Faithful};
 
 use block::block::Block;
 use cipher::cipher::Cipher;
@@ -20,8 +20,8 @@ impl<C: Cipher> TagStage<C> {
     // Fills the buffer with the tag of that length, and answers the length.
     pub fn tag(&self, out: &mut [u8]) -> Result<usize, RecordFault>
         ensures step { Tagging C.Block.form C.f self.now out.old result out.new }
-        ensures run { (cipher : C) (last : List ℕ) (key : KeyOf C C.Block) (nonce header message ciphertext : List ℕ) (tags : List (List ℕ)) → AtTag C.Block.form C.f cipher last key nonce header message ciphertext tags self.now → AtTag C.Block.form C.f cipher last key nonce header message ciphertext (with_tag tags out.new result) self.now }
-        ensures rule { (cipher : C) (last : List ℕ) (key : KeyOf C C.Block) (nonce header message ciphertext : List ℕ) (tags : List (List ℕ)) → AtTag C.Block.form C.f cipher last key nonce header message ciphertext tags self.now → Faithful C.Block.form C.f cipher nonce header message ciphertext (with_tag tags out.new result) }
+        ensures run { (origin : Origin C C.Block) (so_far : Transcript) → AtTag C.Block.form C.f origin so_far self.now → AtTag C.Block.form C.f origin (with_tag so_far out.new result) self.now }
+        ensures rule { (origin : Origin C C.Block) (so_far : Transcript) → AtTag C.Block.form C.f origin so_far self.now → Faithful C.Block.form C.f origin.cipher (with_tag so_far out.new result) }
     {
         if !is_tag_len(C::Block::width(), out.len()) {
             return Err(RecordFault::TagLength);
@@ -35,9 +35,8 @@ impl<C: Cipher> TagStage<C> {
     // Ends the record, and gives the key back.
     pub fn end(self) -> Key<C>
         ensures value { result ≡ self.key }
-        ensures run { (cipher : C) (last : List ℕ) (key : KeyOf C C.Block) (nonce header message ciphertext : List ℕ) (tags : List (List ℕ)) → AtTag C.Block.form C.f cipher last key nonce header message ciphertext tags self → GivenBack C.Block.form C.f cipher last key result }
+        ensures run { (origin : Origin C C.Block) (so_far : Transcript) → AtTag C.Block.form C.f origin so_far self → GivenBack C.Block.form C.f origin result }
     {
-        let TagStage { key, block: _ } = self;
-        key
+        self.key
     }
 }

@@ -1,6 +1,7 @@
 -- A chain comes to CMAC: fed a string it holds CBC of all blocks but the last, and the last block; finishing pads that one.
-use Rattle.std.proofs.Common.{◌≡◌, ℕ, zero, suc, ◌+◌, ◌-◌, ◌*◌, ◌/◌, ◌%◌, ◌<◌, ◌≤◌, true, false, ◌&&◌, eqb, ltb, List, [], ◌∷◌, ◌++◌, length, take, drop, sym, refl, ap, ◌∙◌, ap₂, ⊎_elim, mod-lt, suc-mul, zero-mul, mul-div_cancel, arith}
+use Rattle.std.proofs.Common.{◌≡◌, ℕ, zero, suc, ◌+◌, ◌-◌, ◌*◌, ◌/◌, ◌%◌, ◌<◌, ◌≤◌, true, false, ◌&&◌, eqb, ltb, List, [], ◌∷◌, ◌++◌, length, take, drop, sym, ap, ◌∙◌, ap₂, ⊎_elim, mod-lt, suc-mul, zero-mul, mul-div_cancel, arith}
 use Rattle.std.proofs.lemmas.List.{take-append-drop, length-take-le, length-drop, drop-drop, drop-take, drop-append-le, get_or-take, get_or_append_left, take-append-le, length-append, length-replicate}
+use Rattle.std.proofs.lemmas.List.Sums.{fold-append}
 use Rattle.std.proofs.lemmas.Bool.{cond-true, cond-false, lt-ltb, le-ltb, ltb-true, ltb-false, eqb-true, eqb-false, cases_Bool, cases_order, and_parts, and_cases}
 use Rattle.std.proofs.lemmas.Nat.{div-add-mod'}
 use Rattle.block.specs.Form.{Form}
@@ -33,8 +34,7 @@ short_last (suc q) r n x wide f sum some =
 module _ {B : Type 0} (form : Form B) (lawful : Lawful form) (F : B → B) where
   joined : (c : Chain B) (X Y : List ℕ) → fed form F (fed form F c X) Y ≡ fed form F c (X ++ Y)
   unfolding fed
-  joined c [] Y = refl
-  joined c (x ∷ X) Y = joined (pushed form F c x) X Y
+  joined c X Y = sym (fold-append (pushed form F) c X Y)
 
   -- bytes that fit are put into the block that is held
   fitting : (X : List ℕ) (v h : B) (p : ℕ)

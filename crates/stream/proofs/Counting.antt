@@ -3,6 +3,7 @@
 use Rattle.std.proofs.Common.{◌≡◌, ℕ, zero, suc, ◌+◌, ◌*◌, ◌<◌, ◌≤◌, min, List, [], ◌∷◌, ◌++◌, length, get_or, take, drop, sym, refl, ap, ◌∙◌, ap₂, ⊎_elim, add-zero, mod-eq_of_lt, suc-mul, zero-add, arith}
 use lib.Bits.{bit_xor}
 use Rattle.std.proofs.lemmas.List.{length-take, length-take-le, length-drop, get_or-take, take-append-drop, drop_all, ext_get_or, nil_from_length}
+use Rattle.std.proofs.lemmas.List.Sums.{fold-append}
 use Rattle.std.proofs.lemmas.Bool.{cases_lt, cond-true, cond-false, lt-ltb, le-ltb}
 use Rattle.block.specs.Form.{Form}
 use Rattle.block.specs.Lawful.{Lawful}
@@ -25,8 +26,7 @@ module _ {B : Type 0} (form : Form B) (lawful : Lawful form) (F : B → B) where
 
   moved : (k : Keystream B) (X Y : List ℕ) → advanced form F (advanced form F k X) Y ≡ advanced form F k (X ++ Y)
   unfolding advanced
-  moved k [] Y = refl
-  moved k (x ∷ X) Y = moved (stepped form F k) X Y
+  moved k X Y = sym (fold-append (λ k _. stepped form F k) k X Y)
 
   abbrev at : B → B → ℕ → Keystream B
   at S m u = record { counter = S; mask = m; used = u }

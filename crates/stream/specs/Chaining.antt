@@ -1,5 +1,5 @@
 -- The chain of CMAC, byte by byte. What it comes to is told in `Laws`. Assumes nothing.
-use Rattle.std.specs.Prelude.{ℕ, ◌+◌, cond, List, [], ◌∷◌, nat_lt}
+use Rattle.std.specs.Prelude.{ℕ, ◌+◌, cond, List, fold, nat_lt}
 use Rattle.block.specs.Form.{Form}
 use Rattle.block.specs.Blocks.{zero_block, xored, with_byte_at}
 use Rattle.mode.specs.Strings.{two_l, four_l}
@@ -29,8 +29,7 @@ module _ {B : Type 0} (form : Form B) where
         record { sum = r.sum; held = with_byte_at form r.held r.count x; count = r.count + 1 }
 
     unfoldable pub fed : Chain B → List ℕ → Chain B
-    fed c [] = c
-    fed c (x ∷ X) = fed (pushed c x) X
+    fed c X = fold pushed c X
 
     -- the last block is padded: full with 2L, else with 80 and 4L
     unfoldable pub finished : Chain B → B

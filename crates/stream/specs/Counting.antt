@@ -1,5 +1,5 @@
 -- The keystream of CTR, byte by byte. What it comes to is told in `Laws`. Assumes nothing.
-use Rattle.std.specs.Prelude.{ℕ, ◌+◌, cond, List, [], ◌∷◌, bit_xor, nat_lt}
+use Rattle.std.specs.Prelude.{ℕ, ◌+◌, cond, List, [], ◌∷◌, fold, bit_xor, nat_lt}
 use Rattle.block.specs.Form.{Form}
 use Rattle.block.specs.Blocks.{zero_block, byte_at, following}
 use Rattle.stream.specs.declared.keystream.Keystream.{Keystream}
@@ -32,5 +32,4 @@ module _ {B : Type 0} (form : Form B) where
     enciphered k (x ∷ X) = bit_xor x (next_byte k) ∷ enciphered (stepped k) X
 
     unfoldable pub advanced : Keystream B → List ℕ → Keystream B
-    advanced k [] = k
-    advanced k (x ∷ X) = advanced (stepped k) X
+    advanced k X = fold (λ k _. stepped k) k X

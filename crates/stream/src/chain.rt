@@ -35,6 +35,7 @@ impl<B: Block> Chain<B> {
         }
     }
 
+    #[tactic(auto, unfolding(crate::specs::Chaining::fed))]
     pub fn feed<C: Cipher<Block = B>>(&mut self, cipher: &C, piece: &[u8])
         ensures { self.new ≡ fed B.form (C.f cipher.now) self.old piece.now }
     {
@@ -43,6 +44,7 @@ impl<B: Block> Chain<B> {
         }
     }
 
+    #[tactic(auto, unfolding(crate::specs::Chaining::finished, mode::specs::Strings::l, mode::specs::Strings::two_l, mode::specs::Strings::four_l))]
     pub fn finish<C: Cipher<Block = B>>(self, cipher: &C) -> B
         ensures { result ≡ finished B.form (C.f cipher.now) self }
     {

@@ -25,6 +25,7 @@ impl<B: Block> Keystream<B> {
     }
 
     // Xors the next bytes into a text, in place.
+    #[tactic(auto, unfolding(crate::specs::Counting::enciphered, crate::specs::Counting::advanced))]
     pub fn apply<C: Cipher<Block = B>>(&mut self, cipher: &C, text: &mut [u8])
         ensures value { text.new ≡ enciphered B.form (C.f cipher.now) self.old text.old }
         ensures after { self.new ≡ advanced B.form (C.f cipher.now) self.old text.old }

@@ -5,21 +5,17 @@ ghost use Rattle.stream.specs.Tweaks.{tweak_number};
 
 use block::block::Block;
 
-#[derive(Clone, Copy)]
+#[derive(Clone, Copy, PartialEq, Eq, Debug)]
 pub enum Tweak {
-    Nonce,
-    Header,
-    Ciphertext,
+    Nonce = 0,
+    Header = 1,
+    Ciphertext = 2,
 }
 
 impl Tweak {
     pub fn block<B: Block>(self) -> B
         ensures { result ≡ end_block B.form (tweak_number self) }
     {
-        B::ending(match self {
-            Tweak::Nonce => 0,
-            Tweak::Header => 1,
-            Tweak::Ciphertext => 2,
-        })
+        B::ending(self as u8)
     }
 }

@@ -7,4 +7,4 @@ use Rattle.seal.proofs.header.HeaderStage.leave.Goals as goal
 pub returns : goal.returns
 returns g c =
     let step : Leaves g.C.Block.Block.form g.C.Cipher.f c.args.self _ = search rules in
-    record { step = step; run = λ cipher last key nonce header run. left run step }
+    record { step = step; run = λ origin so_far run. left run step }

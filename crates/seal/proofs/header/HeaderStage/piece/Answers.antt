@@ -15,9 +15,7 @@ returns g c =
     let step : Joining form F s X c.join.result _ = search rules in
     record {
       step = step;
-      run = λ cipher last key nonce header run. pieced run X c.join.result step;
-      answer = λ cipher last key nonce header run.
-          header_answer form lawful F cipher last key nonce header s _ X c.join.result
-          (header_held form lawful F cipher last key nonce header s run)
-          step;
+      run = λ origin so_far run. pieced run X c.join.result step;
+      answer = λ origin so_far run.
+          header_answer form lawful F origin so_far s _ X c.join.result (header_held form lawful F origin run) step;
     }

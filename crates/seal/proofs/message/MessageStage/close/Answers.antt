@@ -7,4 +7,4 @@ use Rattle.seal.proofs.message.MessageStage.close.Goals as goal
 pub returns : goal.returns
 returns g c =
     let step : Closes g.C.Block.Block.form g.C.Cipher.f c.args.self _ = search rules in
-    record { step = step; run = λ cipher last key nonce header message ciphertext run. closed run step }
+    record { step = step; run = λ origin so_far run. closed run step }

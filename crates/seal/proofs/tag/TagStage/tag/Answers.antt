@@ -9,11 +9,11 @@ use Rattle.block.specs.Form.{Form}
 use Rattle.block.specs.Lawful.{Lawful}
 use Rattle.block.specs.Blocks.{byte_at, bytes_of}
 use Rattle.block.proofs.Bytes.{length-bytes, get_or-bytes}
-use Rattle.key.specs.declared.key.Key.{Key}
 use Rattle.seal.specs.Steps.{Tagged, Untagged, Tagging}
-use Rattle.seal.specs.Runs.{AtTag, tagged, with_tag, Faithful}
+use Rattle.seal.specs.Transcripts.{Origin, Transcript, with_tag}
+use Rattle.seal.specs.Runs.{AtTag, tagged, Faithful}
 use Rattle.seal.specs.declared.tag.TagStage.{TagStage}
-use Rattle.seal.proofs.Held.{faithful_tag}
+use Rattle.seal.proofs.Held.{tag_held}
 use Rattle.seal.proofs.tag.TagStage.tag.Goals as goal
 
 -- one byte more of a block
@@ -35,14 +35,13 @@ fits width n u t same test true_test = ap (λ k. is_tag_len_of k u) (sym same) �
 
 -- what each way out of the call owes beside its step
 module _ {C B : Type 0} (form : Form B) (lawful : Lawful form) (F : C → B → B) (t : TagStage C B) (out filled : List ℕ)
-    (r : Result ℕ RecordFault) (step : Tagging form F t out r filled) (cipher : C) (last : List ℕ) (key : Key C B)
-    (nonce header message ciphertext : List ℕ) (tags : List (List ℕ))
-    (before : AtTag form F cipher last key nonce header message ciphertext tags t) where
-  after : AtTag form F cipher last key nonce header message ciphertext (with_tag tags filled r) t
+    (r : Result ℕ RecordFault) (step : Tagging form F t out r filled)
+    (origin : Origin C B) (so_far : Transcript) (before : AtTag form F origin so_far t) where
+  after : AtTag form F origin (with_tag so_far filled r) t
   after = tagged before out filled r step
 
-  faithful : Faithful form F cipher nonce header message ciphertext (with_tag tags filled r)
-  faithful = faithful_tag form lawful F cipher last key nonce header message ciphertext (with_tag tags filled r) t after
+  faithful : Faithful form F origin.cipher (with_tag so_far filled r)
+  faithful = (tag_held form lawful F origin after).faithful
 
 pub loop-place-preserved : goal.loop-place-preserved
 loop-place-preserved g c =
