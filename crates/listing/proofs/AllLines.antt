@@ -1,6 +1,6 @@
 -- The listing of a file that is frames end to end is their lines and their count: each turn hands out the next of them.
-use Rattle.std.proofs.Common.{◌≡◌, ℕ, zero, suc, ◌+◌, ◌<◌, ◌≤◌, true, false, ltb, List, [], ◌∷◌, ◌++◌, length, sym, ap, ◌∙◌, append_assoc, arith}
-use Rattle.std.proofs.lemmas.Bool.{cond-true, cond-false, le-ltb}
+use Rattle.std.proofs.Common.{◌≡◌, ℕ, zero, suc, ◌+◌, ◌<◌, ◌≤◌, List, [], ◌∷◌, ◌++◌, length, sym, ap, ◌∙◌, append_assoc, arith}
+use Rattle.std.proofs.lemmas.Bool.{cond-true, cond-false, le-ltb, lt-ltb}
 use Rattle.std.specs.List.{flat_map}
 use Rattle.pass.specs.Layout.{Parts, encoded, EndToEnd}
 use Rattle.pass.specs.Walking.{Point, start, Handed, next}
@@ -11,13 +11,13 @@ use Rattle.pass.proofs.Whole.{size_of}
 use Rattle.listing.specs.Lines.{end_text, fault_text}
 use Rattle.listing.specs.Listing.{input_max, line, frame_line, lines_at, lines, listing, frame_lines}
 
-pub too_long : (file : List ℕ) → ltb input_max (length file) ≡ true → listing file ≡ line (fault_text 14 input_max)
+pub too_long : (file : List ℕ) → input_max < length file → listing file ≡ line (fault_text 14 input_max)
 unfolding listing
-too_long file h = cond-true _ _ _ h
+too_long file h = cond-true _ _ _ (lt-ltb _ _ h)
 
-pub walked : (file : List ℕ) → ltb input_max (length file) ≡ false → listing file ≡ lines (length file + 1) (start file)
+pub walked : (file : List ℕ) → length file ≤ input_max → listing file ≡ lines (length file + 1) (start file)
 unfolding listing
-walked file h = cond-false _ _ _ h
+walked file h = cond-false _ _ _ (le-ltb _ _ h)
 
 all_lines : (turns : ℕ) (w : Point) (ps : List Parts)
     → length w.rest < turns
@@ -43,6 +43,6 @@ all_lines (suc turns) w (p ∷ ps) h e =
 pub whole_lines : (file : List ℕ) (ps : List Parts) → EndToEnd file ps → length file ≤ input_max → listing file ≡ frame_lines ps
 whole_lines file ps e h =
     let n : 0 + length ps ≡ length ps = omega arith in
-    walked file (le-ltb input_max (length file) h)
+    walked file h
     ∙ all_lines (length file + 1) (start file) ps (omega arith) e
     ∙ ap (λ k. flat_map frame_line (numbered 0 ps) ++ line (end_text k)) n

@@ -1,11 +1,11 @@
 -- The lines written so far and those of the frames that are left are together the lines of the whole file.
-use Rattle.std.proofs.Common.{◌≡◌, ℕ, zero, suc, ◌+◌, ◌<◌, List, [], ◌∷◌, ◌++◌, length, sym, refl, ap, ◌∙◌, subst, append_assoc, append-nil, arith}
+use Rattle.std.proofs.Common.{◌≡◌, ℕ, zero, suc, ◌+◌, ◌<◌, List, [], ◌∷◌, ◌++◌, length, sym, refl, ap, ◌∙◌, append_assoc, append-nil, arith}
 use Rattle.std.proofs.lemmas.List.{flat_map_more}
 use Rattle.std.specs.List.{flat_map}
 use Rattle.pass.specs.Runs.{Walks, called}
 use Rattle.pass.specs.Walking.{Point, start, Handed, Told, handed, answer, next, Steps}
 use Rattle.pass.proofs.RoundTrip.{shorter}
-use Rattle.listing.specs.Listing.{frame_line, lines_at, lines, Lists}
+use Rattle.listing.specs.Listing.{frame_line, lines_at, lines}
 
 -- `before` stood there first, `text` is what is written by now, and the walk is at w
 pub record Sofar (before file text : List ℕ) (w : Point) : Type 0 where
@@ -57,37 +57,3 @@ module _ {before file text : List ℕ} {w : Point} (old : Sofar before file text
         run = called old.run (handed f) step;
         written = more ∙ ap (λ t. t ++ frame_line f) old.written ∙ flat_map_more frame_line before old.frames f;
       }
-
-  -- the last line is left to write
-  pub ended : (r : Told) (last : List ℕ)
-      → r ≡ answer w
-      → ((f : Handed) → r ≡ handed f → ⊥)
-      → ((more : List ℕ) → lines_at r w more ≡ last)
-      → (text ++ last ≡ before ++ lines (length file + 1) (start file))
-      × ((more : List ℕ) × (text ≡ before ++ more) × Lists file (more ++ last))
-  ended r last value no_frame is =
-      let n = next_lines old.turns w r old.enough value in (
-        sym (ap (λ ls. text ++ ls) (n.2 ∙ is _)) ∙ old.whole,
-        (
-          flat_map frame_line old.frames,
-          old.written,
-          record {
-            frames = old.frames;
-            end = w;
-            run = old.run;
-            last = λ f e. no_frame f (value ∙ e);
-            bytes = ap (λ l. flat_map frame_line old.frames ++ l) (sym (is []) ∙ ap (λ x. lines_at x w []) value);
-          },
-        ),
-      )
-
--- nothing stood there first, and the last line is written
-pub finished : (file out text new more last : List ℕ)
-    → out ≡ text ++ last
-    → text ≡ new ++ more
-    → new ≡ []
-    → Lists file (more ++ last)
-    → Lists file out
-finished file out text new more last wrote lines empty l =
-    let same : out ≡ more ++ last = wrote ∙ ap (λ t. t ++ last) (lines ∙ ap (λ n. n ++ more) empty) in
-    subst (Lists file) (sym same) l

@@ -1,11 +1,10 @@
 -- The text of a listing. Assumes nothing.
 use Rattle.std.specs.Prelude.{◌≡◌, ℕ, zero, suc, ◌+◌, cond, List, [], ◌∷◌, ◌++◌, length, ◌≢◌, nat_lt}
 use Rattle.std.specs.List.{flat_map}
-use Rattle.wire.specs.Kinds.{kind_number}
 use Rattle.pass.specs.Layout.{Parts}
 use Rattle.pass.specs.Walking.{Point, start, Handed, Told, none, handed, refused, answer, next}
 use Rattle.pass.specs.Runs.{Walks, numbered}
-use Rattle.listing.specs.Lines.{frame_text, end_text, fault_text}
+use Rattle.listing.specs.Lines.{handed_text, end_text, fault_text}
 
 abbrev pub input_max : ℕ
 input_max = 65536
@@ -14,7 +13,7 @@ abbrev pub line : List ℕ → List ℕ
 line text = text ++ (10 ∷ [])
 
 abbrev pub frame_line : Handed → List ℕ
-frame_line f = line (frame_text f.number (kind_number f.parts.kind) f.place f.len)
+frame_line f = line (handed_text f)
 
 -- the line that an answer gives at a point; after a frame come more lines
 abbrev pub lines_at : Told → Point → (more : List ℕ) → List ℕ

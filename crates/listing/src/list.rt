@@ -5,53 +5,31 @@ ghost use Rattle.pass.specs.Walking.{start};
 ghost use Rattle.listing.specs.Lines.{ending_text};
 ghost use Rattle.listing.specs.Listing.{input_max, line, lines, listing as listed, Lists, frame_lines};
 
-use crate::line::{Ending, Line};
+use crate::line::{Line, Stopped};
 use pass::walk::Walk;
 use std::alloc::{AllocError, Global};
-use std::fmt::Display;
 use wire::fault::ListFault;
 
 // The longest input that is listed, in bytes.
 pub const INPUT_MAX: usize = 65536;
 
-// Writing to a `String` fails for want of memory only.
-fn write_line<D: Display + Drop>(text: &mut String, value: D) -> Result<(), AllocError>
-    ensures { OnOk result (IfSome (D.output value) (λ bs. string_bytes text.new ≡ string_bytes text.old ++ line bs)) }
-{
-    match text.writeln(value) {
-        Ok(()) => Ok(()),
-        Err(_) => Err(AllocError),
-    }
-}
-
-// Writes a line for each frame, and answers the last line.
-fn list_frames(text: &mut String, file: &[u8]) -> Result<Ending, AllocError>
+// Writes a line for each frame, and answers their count, or what ended the walk. Writing fails for want of memory only.
+fn list_frames(text: &mut String, file: &[u8]) -> Result<Result<usize, Stopped>, AllocError>
     ensures bytes { IfOk result (λ e. string_bytes text.new ++ line (ending_text e) ≡ string_bytes text.old ++ lines (length file.now + 1) (start file.now)) }
     ensures walks { IfOk result (λ e. (more : List ℕ) × (string_bytes text.new ≡ string_bytes text.old ++ more) × Lists file.now (more ++ line (ending_text e))) }
 {
     let mut walk = Walk::new(file);
     // the label names the loop in its proof
     'walking: loop {
-        let next = match walk.next_frame() {
-            Ok(next) => next,
-            Err(fault) => return Ok(Ending::Fault {
+        match walk.next_frame() {
+            Ok(Some(frame)) => writeln!(text, "{}", Line(frame))?,
+            Ok(None) => return Ok(Ok(walk.count())),
+            Err(fault) => return Ok(Err(Stopped {
                 fault: fault.into(),
                 left: walk.left(),
-            }),
-        };
-        let Some(frame) = next else {
-            return Ok(Ending::End {
-                count: walk.count(),
-            });
-        };
-        write_line(text, Line::of(&frame))?;
+            })),
+        }
     }
-}
-
-fn is_too_long(input: &[u8]) -> bool
-    ensures { result ≡ nat_lt input_max (length input.now) }
-{
-    input.len() > INPUT_MAX
 }
 
 // A file that is too long is not walked: its listing is the fault alone.
@@ -61,14 +39,17 @@ pub fn listing(heap: Global, input: &[u8]) -> Result<String, AllocError>
     ensures whole { IfOk result (λ s. (ps : List Parts) → EndToEnd input.now ps → length input.now ≤ input_max → string_bytes s ≡ frame_lines ps) }
 {
     let mut text = String::new(heap);
-    let ending = if is_too_long(input) {
-        Ending::Fault {
+    let ending = if input.len() > INPUT_MAX {
+        Err(Stopped {
             fault: ListFault::InputTooLong,
             left: INPUT_MAX,
-        }
+        })
     } else {
         list_frames(&mut text, input)?
     };
-    write_line(&mut text, ending)?;
+    match ending {
+        Ok(count) => writeln!(text, "end {count}")?,
+        Err(stopped) => writeln!(text, "{stopped}")?,
+    }
     Ok(text)
 }

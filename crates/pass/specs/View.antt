@@ -7,10 +7,9 @@ use Rattle.pass.specs.declared.frame.Content.{Content}
 use Rattle.pass.specs.declared.frame.Content.TheVariants.{Idle, Sealed}
 use Rattle.pass.specs.declared.frame.Last.{Last}
 use Rattle.pass.specs.declared.frame.Frame.{Frame}
-use Rattle.pass.specs.declared.walk.Walk.{Walk}
 use Rattle.pass.specs.Layout.{Parts}
 use Rattle.pass.specs.Reading.{Cut}
-use Rattle.pass.specs.Walking.{Handed, Told, none, handed, refused, Point}
+use Rattle.pass.specs.Walking.{Handed, Told, none, handed, refused}
 
 -- what a frame carries: its kind and its parts as bytes
 abbrev pub parts_of : Content → Parts
@@ -33,17 +32,8 @@ cut_in (Ok l) = Ok (record { rest = l.rest.now; parts = parts_of l.content })
 abbrev pub handed_of : Frame → Handed
 handed_of f = record { parts = parts_of f.content; number = f.number; place = f.place; len = f.len }
 
--- the same inside a result
-abbrev pub handed_in : {E : Type 0} → Result Frame E → Result Handed E
-handed_in (Ok f) = Ok (handed_of f)
-handed_in (Err e) = Err e
-
 -- what the walk answers
 abbrev pub told : Result (Option Frame) PassFault → Told
 told (Ok None) = none
 told (Ok (Some f)) = handed (handed_of f)
 told (Err e) = refused (pass_number e) e.fault.place e.frame
-
--- where a walk stands
-abbrev pub point_of : Walk → Point
-point_of w = record { rest = w.rest.now; number = w.number }

@@ -50,25 +50,13 @@ impl<'a> Content<'a> {
 // What the walk hands out. Only the walk makes one.
 #[derive(Clone, Copy, Debug)]
 pub struct Frame<'a> {
-    content: Content<'a>,
-    number: usize,
-    place: usize,
-    len: usize,
+    pub(crate) content: Content<'a>,
+    pub(crate) number: usize,
+    pub(crate) place: usize,
+    pub(crate) len: usize,
 }
 
 impl<'a> Frame<'a> {
-    // Makes the frame that follows `last.rest` in the file.
-    pub(crate) fn new(last: Last<'a>, number: usize, len: usize) -> Frame<'a>
-        ensures { handed_of result ≡ record { parts = parts_of last.entry.content; number = number; place = length last.entry.rest.now; len = len } }
-    {
-        Frame {
-            content: last.content,
-            number,
-            place: last.rest.len(),
-            len,
-        }
-    }
-
     pub fn content(&self) -> Content<'a>
         ensures { result ≡ self.now.content }
     {
@@ -76,7 +64,7 @@ impl<'a> Frame<'a> {
     }
 
     pub fn kind(&self) -> Kind
-        ensures { result ≡ (handed_of self.now).parts.kind }
+        ensures { result ≡ (parts_of self.now.content).kind }
     {
         match self.content {
             Content::Idle { .. } => Kind::Idle,
@@ -86,21 +74,21 @@ impl<'a> Frame<'a> {
 
     // The frame's number, from 0 at the file's end.
     pub fn number(&self) -> usize
-        ensures { result ≡ (handed_of self.now).number }
+        ensures { result ≡ self.now.number }
     {
         self.number
     }
 
     // The place of the frame's first byte, from the file's first.
     pub fn place(&self) -> usize
-        ensures { result ≡ (handed_of self.now).place }
+        ensures { result ≡ self.now.place }
     {
         self.place
     }
 
     // The bytes of the whole frame, with its trailer.
     pub fn len(&self) -> usize
-        ensures { result ≡ (handed_of self.now).len }
+        ensures { result ≡ self.now.len }
     {
         self.len
     }

@@ -1,13 +1,102 @@
 // The walk of a pass file, frame by frame from its end.
-ghost use Rattle.std.specs.Prelude.{◌+◌, ◌^◌, ◌<◌, length};
+ghost use Rattle.std.specs.Prelude.{◌≡◌, ℕ, ◌+◌, ◌-◌, ◌^◌, ◌<◌, ◌≤◌, List, [], length, IfOk, MatchResult, ◌≢◌};
+ghost use Rattle.wire.specs.Faults.{cause_number};
+ghost use Rattle.pass.specs.Layout.{Behind, Refusal};
+ghost use Rattle.pass.specs.Reading.{last_of};
+ghost use Rattle.pass.specs.Walking.{Handed as TheHanded, start, handed, answer, next, Steps};
+ghost use Rattle.pass.specs.View.{parts_of, cut_in, told};
+ghost use Rattle.pass.specs.Runs.{collected, Walks, Reaches, Whole};
 
-mod calls;
+use crate::frame::{Frame, Last, last_frame};
+use crate::trailer::TRAILER_LEN;
+use std::marker::Model;
+use wire::fault::{FrameFault, PassFault, at};
 
-// Where a walk stands: the bytes that are left, and the number of the frame that ends them. Their sum never grows, so
-// the number cannot overflow. The struct has a file of its own, since the definitions that its calls cite name it.
+// Where a walk stands: the bytes that are left, and the number of the frame that ends them.
 #[derive(Drop)]
 pub struct Walk<'a> {
     rest: &'a [u8],
     number: usize,
-    ghost few: { number + length rest.now < 2 ^ 64 },
+}
+
+impl<'a> Model for Walk<'a> {
+    ghost use Rattle.std.specs.Prelude.{◌+◌, ◌^◌, ◌<◌, length};
+    ghost use Rattle.pass.specs.Walking.{Point};
+
+    ghost Value = { Point };
+
+    ghost view = { λ w. record { rest = w.rest.now; number = w.number } };
+
+    // The sum never grows, so the number cannot overflow.
+    ghost invariant = { λ w. w.number + length w.rest.now < 2 ^ 64 };
+}
+
+impl<'a> Walk<'a> {
+    pub fn new(file: &'a [u8]) -> Walk<'a>
+        ensures value { result ≡ start file.now }
+        ensures run { Walks file.now [] result }
+        ensures reaches { Reaches file.now }
+    {
+        Walk {
+            rest: file,
+            number: 0,
+        }
+    }
+
+    // The bytes not walked yet.
+    pub fn left(&self) -> usize
+        ensures { result ≡ length self.now.rest }
+    {
+        self.rest.len()
+    }
+
+    // The frames handed out so far.
+    pub fn count(&self) -> usize
+        ensures value { result ≡ self.now.number }
+        ensures few { self.now.number + length self.now.rest < 2 ^ 64 }
+    {
+        self.number
+    }
+
+    // The frame that ends the bytes that are left, or none if none are left. A refusal leaves the walk as it is.
+    pub fn next_frame(&mut self) -> Result<Option<Frame<'a>>, PassFault>
+        ensures value { told result ≡ answer self.old }
+        ensures after { self.new ≡ next self.old }
+        ensures step { Steps self.old (told result) self.new }
+        ensures run { (file : List ℕ) (fs : List TheHanded) → Walks file fs self.old → Walks file (collected fs (told result)) self.new }
+        ensures rule { (file : List ℕ) (fs : List TheHanded) → Walks file fs self.old → Whole file fs (told result) }
+        ensures stays { ((f : TheHanded) → told result ≢ handed f) → answer self.new ≡ told result }
+    {
+        if self.rest.is_empty() {
+            return Ok(None);
+        }
+        let Last { rest, content } = at(located(self.rest), self.number)?;
+        let frame = Frame {
+            content,
+            number: self.number,
+            place: rest.len(),
+            len: self.rest.len() - rest.len(),
+        };
+        *self = Walk {
+            rest,
+            number: self.number + 1,
+        };
+        Ok(Some(frame))
+    }
+}
+
+// The place of the trailer that ends `bytes`: 0 if they are too few for one.
+fn trailer_place(bytes: &[u8]) -> usize
+    ensures { result ≡ length bytes.now - 8 }
+{
+    bytes.len().saturating_sub(TRAILER_LEN)
+}
+
+// The frame that ends `bytes`, or what is wrong with it and where its trailer is.
+fn located(bytes: &[u8]) -> Result<Last<'_>, FrameFault>
+    ensures value { cut_in result ≡ last_of bytes.now }
+    ensures cases { MatchResult result (λ l. Behind bytes.now l.rest.now (parts_of l.content)) (λ e. Refusal bytes.now (cause_number e.cause)) }
+    ensures shorter { IfOk result (λ l. length l.rest.now + 8 ≤ length bytes.now) }
+{
+    Ok(at(last_frame(bytes), trailer_place(bytes))?)
 }

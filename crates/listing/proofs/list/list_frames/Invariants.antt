@@ -1,11 +1,10 @@
 -- The loop keeps the lines written so far, and the rest of the walk falls.
 use Rattle.std.proofs.Common.{length, string_bytes}
-use Rattle.pass.specs.View.{point_of}
 use Rattle.listing.proofs.Walked.{Sofar}
 use Rattle.listing.proofs.list.list_frames.Given as goal
 
 abbrev pub invariant-walking : goal.invariant-walking
-invariant-walking l = Sofar (string_bytes l.initial.text) l.file (string_bytes l.text) (point_of l.walk)
+invariant-walking l = Sofar (string_bytes l.initial.text) l.file (string_bytes l.text) l.walk
 
 abbrev pub decreases-walking : goal.decreases-walking
-decreases-walking l = length (point_of l.walk).rest
+decreases-walking l = length l.walk.rest

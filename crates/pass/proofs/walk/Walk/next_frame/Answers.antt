@@ -1,59 +1,43 @@
--- Each way out of the call is one of the three of `Call`.
-use Rattle.std.proofs.Common.{◌≡◌, ℕ, length, Err, Option, Result, sym, ap, ◌∙◌, subst}
-use Rattle.std.proofs.lemmas.Result.{err_from_is_err_and, MatchResult-at_ok, MatchResult-at_err}
+-- What ends the rest decides the step, and the step decides what is said of the whole file.
+use Rattle.std.proofs.Common.{◌≡◌, [], sym, refl, arith}
+use Rattle.std.proofs.lemmas.List.{nil_from_length}
 use Rattle.std.proofs.lemmas.Bool.{eqb-true, eqb-false}
-use Rattle.wire.specs.Faults.{cause_number}
-use Rattle.wire.specs.declared.fault.FrameFault.{FrameFault}
-use Rattle.wire.specs.declared.fault.PassFault.{PassFault}
+use Rattle.std.proofs.lemmas.Result.{err_from_is_err_and}
 use Rattle.wire.proofs.Carried.{placed_ok, placed_err}
-use Rattle.pass.specs.declared.frame.Frame.{Frame}
-use Rattle.pass.specs.Layout.{Behind, Refusal}
-use Rattle.pass.specs.View.{parts_of, handed_of, handed_in, told, point_of}
-use Rattle.pass.specs.Walking.{Point, tell}
-use Rattle.pass.proofs.Call.{Promise, none_left, refuses, hands}
+use Rattle.pass.specs.View.{told, parts_of}
+use Rattle.pass.specs.Walking.{none, handed}
+use Rattle.pass.specs.Runs.{called}
+use Rattle.pass.proofs.Call.{refuses, hands}
+use Rattle.pass.proofs.Whole.{whole}
 use Rattle.pass.proofs.walk.Walk.next_frame.Goals as goal
 
--- what the two cases of `take_last` say
-abbrev there : Point → Point → Frame → Type 0
-there w v f = Behind w.rest v.rest (parts_of f.content)
+pub returns-then-is_empty-clause-rule : goal.returns-then-is_empty-clause-rule
+returns-then-is_empty-clause-rule c file fs run =
+    let w = c.args.self.now in
+    let empty : w.rest ≡ [] = rw (← c.self.view_is) (nil_from_length _ (eqb-true _ _ (sym c.if-is_empty.ensures))) in
+    whole file fs w w none run (empty, refl)
 
-abbrev not_there : Point → FrameFault → Type 0
-not_there w e = Refusal w.rest (cause_number e.cause)
-
-pub returns-then-is_empty : goal.returns-then-is_empty
-returns-then-is_empty c =
-    let w = point_of c.args.self.now in
-    let p = none_left w (eqb-true (length w.rest) 0 (sym c.if-is_empty.ensures)) in
-    record { value = p.value; after = p.after; step = p.step; run = p.run; rule = p.rule; stays = p.stays }
-
--- what is returned at the `?` tells of the frame's fault, and adds the frame's number
-carried : (r : Result (Option Frame) PassFault) (y : PassFault) (x : FrameFault × ℕ) (n : ℕ)
-    → r ≡ Err y
-    → y ≡ record { fault = x.0; frame = x.1 }
-    → n ≡ x.1
-    → tell n (Err x.0) ≡ told r
-carried r y x n e f h = ap (λ k. tell k (Err x.0)) h ∙ sym (ap told e ∙ ap (λ z. told (Err z)) f)
-
-pub returns-in_err-frame : goal.returns-in_err-frame
-returns-in_err-frame c =
-    let w = point_of c.args.self.now in
-    let v = point_of c.take_last.new.self in
-    let some = eqb-false (length w.rest) 0 (sym c.if-is_empty.ensures) in
-    let x = c.in_err-frame.field-0.0 in
+pub returns-in_err-rest-clause-step : goal.returns-in_err-rest-clause-step
+returns-in_err-rest-clause-step c =
     let e = err_from_is_err_and c.from_residual.result c.from_residual.ensures.1 in
-    let d = placed_err c.take_last.result _ x (sym c.in_err-frame.ensures) in
-    let why = MatchResult-at_err (there w v) (not_there w) x.0 d.0 c.take_last.ensures.cases in
-    let q = refuses w some x.0 v (ap handed_in (sym d.0) ∙ c.take_last.ensures.value) c.take_last.ensures.after why in
-    let p = subst (λ r. Promise w r v) (carried c.from_residual.result e.0 x w.number e.1 e.2 d.1) q in
-    record { value = p.value; after = p.after; step = p.step; run = p.run; rule = p.rule; stays = p.stays }
+    let d = placed_err c.located.result _ c.in_err-rest.field-0.0 (sym c.in_err-rest.ensures) in
+    rw (← c.self.view_is, e.1, e.2, ← d.1)
+    (refuses _ c.in_err-rest.field-0.0.0 (omega (arith, eqb-false _ _ (sym c.if-is_empty.ensures)))
+    (sym (rw d.0 at c.located.ensures.value))
+    (rw d.0 at c.located.ensures.cases))
 
-pub returns : goal.returns
-returns c =
-    let w = point_of c.args.self.now in
-    let v = point_of c.take_last.new.self in
-    let some = eqb-false (length w.rest) 0 (sym c.if-is_empty.ensures) in
-    let f = c.in_ok-frame.frame in
-    let ok = placed_ok c.take_last.result _ f (sym c.in_ok-frame.ensures) in
-    let ends = MatchResult-at_ok (there w v) (not_there w) f ok c.take_last.ensures.cases in
-    let p = hands w some (handed_of f) v (ap handed_in (sym ok) ∙ c.take_last.ensures.value) c.take_last.ensures.after ends in
-    record { value = p.value; after = p.after; step = p.step; run = p.run; rule = p.rule; stays = p.stays }
+pub returns-in_err-rest-clause-rule : goal.returns-in_err-rest-clause-rule
+returns-in_err-rest-clause-rule c file fs run =
+    whole file fs c.args.self.now c.args.self.now (told c.from_residual.result) run (returns-in_err-rest-clause-step c)
+
+pub returns-clause-step : goal.returns-clause-step
+returns-clause-step c =
+    let l = c.in_ok-rest.field-0 in
+    let ok = placed_ok c.located.result _ l (sym c.in_ok-rest.ensures) in
+    rw (← c.self.view_is) (hands _ (record { rest = l.rest.now; parts = parts_of l.content }) (rw ok at c.located.ensures.cases))
+
+pub returns-clause-run : goal.returns-clause-run
+returns-clause-run c file fs run = called run (handed _) (returns-clause-step c)
+
+pub returns-clause-rule : goal.returns-clause-rule
+returns-clause-rule c file fs run = whole file fs _ _ (handed _) run (returns-clause-step c)

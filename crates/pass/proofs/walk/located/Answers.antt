@@ -12,7 +12,7 @@ use Rattle.pass.specs.Reading.{locate, last_of}
 use Rattle.pass.specs.View.{parts_of, cut_in}
 use Rattle.pass.proofs.Cuts.{last_read}
 use Rattle.pass.proofs.RoundTrip.{shorter}
-use Rattle.pass.proofs.walk.calls.located.Goals as goal
+use Rattle.pass.proofs.walk.located.Goals as goal
 
 -- what the definition's two cases say of what is returned
 cases : (bs : List ℕ) (r : Result Last FrameFault)
