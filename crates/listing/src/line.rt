@@ -16,7 +16,7 @@ impl<'a> fmt::Display for Line<'a> {
     fn fmt<W: fmt::Write>(&self, f: &mut fmt::Formatter<W>) -> fmt::Result {
         let Line(frame) = *self;
         let number = frame.number();
-        let kind = frame.kind().number();
+        let kind = u8::from(frame.kind());
         let place = frame.place();
         let len = frame.len();
         write!(f, "{number} {kind} {place} {len}")

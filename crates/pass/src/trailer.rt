@@ -44,11 +44,8 @@ impl Trailer {
         if *mark != MARK {
             return Err(Cause::NoMark);
         }
-        let Some(kind) = Kind::from_number(*kind) else {
-            return Err(Cause::UnknownKind);
-        };
         Ok(Trailer {
-            kind,
+            kind: Kind::try_from(*kind)?,
             nonce: *nonce,
             tag: *tag,
             header: u16::from_be_bytes([*header_high, *header_low]),
