@@ -2,7 +2,8 @@
 use Rattle.std.proofs.Common.{◌≡◌, ℕ, zero, suc, ◌+◌, ◌-◌, ◌*◌, ◌/◌, ◌%◌, ◌<◌, ◌≤◌, true, false, ◌&&◌, eqb, ltb, List, [], ◌∷◌, ◌++◌, length, take, drop, sym, ap, ◌∙◌, ap₂, ⊎_elim, mod-lt, suc-mul, zero-mul, mul-div_cancel, arith}
 use Rattle.std.proofs.lemmas.List.{take-append-drop, length-take-le, length-drop, drop-drop, drop-take, drop-append-le, get_or-take, get_or_append_left, take-append-le, length-append, length-replicate}
 use Rattle.std.proofs.lemmas.List.Sums.{fold-append}
-use Rattle.std.proofs.lemmas.Bool.{cond-true, cond-false, lt-ltb, le-ltb, ltb-true, ltb-false, eqb-true, eqb-false, cases_Bool, cases_order, and_parts, and_cases}
+use Rattle.std.proofs.lemmas.Bool.Decides.{nat_tests}
+use Rattle.std.proofs.lemmas.Bool.{cond-true, cond-false, lt-ltb, le-ltb, ltb-true, eqb-true, cases_Bool, and_parts}
 use Rattle.std.proofs.lemmas.Nat.{div-add-mod'}
 use Rattle.block.specs.Form.{Form}
 use Rattle.block.specs.Lawful.{Lawful}
@@ -11,25 +12,17 @@ use Rattle.block.proofs.Bytes.{length-bytes, by_bytes}
 use Rattle.mode.specs.Strings.{into_last, is_full, filled_up, two_l, four_l, pad, cbc, cmac, omac}
 use Rattle.mode.proofs.Ctr.{some}
 use Rattle.stream.specs.declared.chain.Chain.{Chain}
-use Rattle.stream.specs.Chaining.{blank, holding, with_room, pushed, fed, finished}
+use Rattle.stream.specs.Chaining.{blank, holding, pushed, fed, finished}
 use Rattle.stream.specs.Laws.{Chains}
 use Rattle.stream.proofs.Padding.{same_front, block-filled_up}
 
 -- a count of whole blocks that is not 0 has a last block
 whole_blocks : (q r n x : ℕ) → 0 < x → r ≡ 0 → q * n + r ≡ x → x ≡ (q - 1) * n + n
-whole_blocks zero r n x some even sum = absurd (omega (arith, zero-mul n))
-whole_blocks (suc q) r n x some even sum =
-    let before : suc q - 1 ≡ q = omega arith in
-    rw before (omega (arith, suc-mul q n))
+whole_blocks q r n x some even sum = grind (arith, nat_tests, suc-mul (q - 1) n)
 
 -- otherwise the last block is short, or the string empty
 short_last : (q r n x : ℕ) → 0 < n → (ltb 0 x && eqb r 0) ≡ false → q * n + r ≡ x → 0 < q → q * n < x
-short_last zero r n x wide f sum some = absurd (omega arith)
-short_last (suc q) r n x wide f sum some =
-    ⊎_elim
-    (λ none. let empty : x ≤ 0 = ltb-false 0 x none in absurd (omega (arith, suc-mul q n)))
-    (λ odd. ⊎_elim (λ e. absurd (eqb-false r 0 odd e)) (λ way. ⊎_elim (λ l. omega arith) (λ l. omega arith) way) (cases_order r 0))
-    (and_cases _ _ f)
+short_last q r n x wide f sum some = grind (arith, nat_tests)
 
 module _ {B : Type 0} (form : Form B) (lawful : Lawful form) (F : B → B) where
   joined : (c : Chain B) (X Y : List ℕ) → fed form F (fed form F c X) Y ≡ fed form F c (X ++ Y)
@@ -42,16 +35,8 @@ module _ {B : Type 0} (form : Form B) (lawful : Lawful form) (F : B → B) where
       → fed form F (record { sum = v; held = h; count = p }) X
       ≡ record { sum = v; held = put_from form h p X; count = p + length X }
   unfolding fed
-  fitting [] v h p fits =
-      let e : p ≡ p + 0 = omega arith in
-      ap (λ k. record { sum = v; held = h; count = k }) e
-  fitting (x ∷ X) v h p fits =
-      let e : p + 1 + length X ≡ p + length (x ∷ X) = omega arith in
-      let c : Chain B = record { sum = v; held = h; count = p } in
-      let room : with_room form F c ≡ c = cond-true _ _ _ (lt-ltb p form.size (omega arith)) in
-      ap (λ r. fed form F (record { sum = r.sum; held = with_byte_at form r.held r.count x; count = r.count + 1 }) X) room
-      ∙ fitting X v (with_byte_at form h p x) (p + 1) (omega arith)
-      ∙ ap (λ k. record { sum = v; held = put_from form h p (x ∷ X); count = k }) e
+  fitting [] v h p fits = grind arith
+  fitting (x ∷ X) v h p fits = grind (arith, nat_tests, fitting X v (with_byte_at form h p x) (p + 1))
 
   -- before the next byte a full block goes into the sum
   passing : (X : List ℕ) (v h : B)
@@ -60,13 +45,7 @@ module _ {B : Type 0} (form : Form B) (lawful : Lawful form) (F : B → B) where
       ≡ fed form F (record { sum = F (xored form v h); held = zero_block form; count = 0 }) X
   unfolding fed
   passing [] v h l = absurd (omega arith)
-  passing (x ∷ X) v h l =
-      let c : Chain B = record { sum = v; held = h; count = form.size } in
-      let d : Chain B = record { sum = F (xored form v h); held = zero_block form; count = 0 } in
-      let same : with_room form F c ≡ with_room form F d =
-      cond-false _ _ _ (le-ltb form.size form.size (omega arith))
-      ∙ sym (cond-true _ _ _ (lt-ltb 0 form.size (some form lawful F))) in
-      ap (λ r. fed form F (record { sum = r.sum; held = with_byte_at form r.held r.count x; count = r.count + 1 }) X) same
+  passing (x ∷ X) v h l = grind (arith, nat_tests, some form lawful F)
 
   -- what a chain holds after q blocks and a last one, which is empty only if the string is
   blocks : (q : ℕ) (v : B) (X : List ℕ)
