@@ -2,6 +2,7 @@
 use Rattle.std.proofs.Common.{◌≡◌, ℕ, zero, suc, ◌+◌, ◌-◌, ◌*◌, ◌/◌, ◌%◌, ◌<◌, ◌≤◌, true, false, ◌&&◌, eqb, ltb, List, [], ◌∷◌, ◌++◌, length, take, drop, sym, ap, ◌∙◌, ap₂, ⊎_elim, mod-lt, suc-mul, zero-mul, mul-div_cancel, arith}
 use Rattle.std.proofs.lemmas.List.{take-append-drop, length-take-le, length-drop, drop-drop, drop-take, drop-append-le, get_or-take, get_or_append_left, take-append-le, length-append, length-replicate}
 use Rattle.std.proofs.lemmas.List.Sums.{fold-append}
+use Rattle.std.proofs.lemmas.Grind.{common_steps}
 use Rattle.std.proofs.lemmas.Bool.Decides.{nat_tests}
 use Rattle.std.proofs.lemmas.Bool.{cond-true, cond-false, lt-ltb, le-ltb, ltb-true, eqb-true, cases_Bool, and_parts}
 use Rattle.std.proofs.lemmas.Nat.{div-add-mod'}
@@ -54,11 +55,7 @@ module _ {B : Type 0} (form : Form B) (lawful : Lawful form) (F : B → B) where
       → fed form F (record { sum = v; held = zero_block form; count = 0 }) X
       ≡ record { sum = cbc form F q v X; held = block_of form (drop (q * form.size) X); count = length X - q * form.size }
   unfolding cbc
-  blocks zero v X long fits =
-      let none : 0 * form.size ≡ 0 = zero-mul form.size in
-      let whole : 0 + length X ≡ length X - 0 * form.size = omega (arith, none) in
-      fitting X v (zero_block form) 0 (omega (arith, none))
-      ∙ ap₂ (λ h k. record { sum = v; held = h; count = k }) (ap (λ k. block_of form (drop k X)) (sym none)) whole
+  blocks zero v X long fits = grind (arith, common_steps, zero-mul form.size, fitting X v (zero_block form) 0)
   blocks (suc q) v X long fits =
       let n = form.size in
       let times : suc q * n ≡ q * n + n = suc-mul q n in
@@ -88,10 +85,7 @@ module _ {B : Type 0} (form : Form B) (lawful : Lawful form) (F : B → B) where
       → q * form.size ≤ length X
       → cbc form F (suc q) v (take (q * form.size) X ++ bytes_of form b) ≡ F (xored form (cbc form F q v X) b)
   unfolding cbc
-  cbc_last zero v b X h =
-      let none : 0 * form.size ≡ 0 = zero-mul form.size in
-      ap (λ k. F (xored form v (block_of form (take k X ++ bytes_of form b)))) none
-      ∙ ap (λ a. F (xored form v a)) ((by_bytes form lawful).back b)
+  cbc_last zero v b X h = grind (arith, common_steps, zero-mul form.size, (by_bytes form lawful).back b)
   cbc_last (suc q) v b X h =
       let n = form.size in
       let times : suc q * n ≡ n + q * n = suc-mul q n ∙ omega arith in
@@ -173,18 +167,16 @@ module _ {B : Type 0} (form : Form B) (lawful : Lawful form) (F : B → B) where
 
   block : (b : B) → fed form F (blank form) (bytes_of form b) ≡ holding form b
   block b =
-      let n = form.size in
-      fitting (bytes_of form b) (zero_block form) (zero_block form) 0 (omega (arith, length-bytes form lawful b))
-      ∙ ap₂ (λ h k. record { sum = zero_block form; held = h; count = k })
-      ((by_bytes form lawful).back b)
-      (omega (arith, length-bytes form lawful b))
+      grind
+      (arith, common_steps, fitting (bytes_of form b) (zero_block form) (zero_block form) 0, length-bytes form lawful b, (by_bytes form lawful).back b)
 
   tweaked : (t : ℕ) (X : List ℕ) → finished form F (fed form F (holding form (end_block form t)) X) ≡ omac form F t X
   unfolding omac
   tweaked t X =
-      ap (λ c. finished form F (fed form F c X)) (sym (block (end_block form t)))
-      ∙ ap (finished form F) (joined (blank form) (bytes_of form (end_block form t)) X)
-      ∙ plain (bytes_of form (end_block form t) ++ X)
+      let same = block (end_block form t) in
+      let two = joined (blank form) (bytes_of form (end_block form t)) X in
+      let whole = plain (bytes_of form (end_block form t) ++ X) in
+      cc
 
   pub chains : Chains form F
   chains = record { joined = joined; block = block; plain = plain; tweaked = tweaked }
