@@ -109,13 +109,9 @@ module _ {B : Type 0} (form : Form B) (lawful : Lawful form) (F : B → B) where
   unfolding cmac
   cmac_last q b X h padded =
       let n = form.size in
-      let long : length (take (q * n) X ++ bytes_of form b) ≡ suc q * n =
-      length-append (take (q * n) X) _
-      ∙ omega (arith, length-take-le (q * n) X h, length-bytes form lawful b, suc-mul q n) in
-      ap (λ Y. cbc form F (length Y / n) (zero_block form) Y) padded
-      ∙ ap (λ k. cbc form F k (zero_block form) (take (q * n) X ++ bytes_of form b))
-      (ap (λ k. k / n) long ∙ mul-div_cancel (suc q) (some form lawful F))
-      ∙ cbc_last q (zero_block form) b X h
+      let long : length (pad form F X) / n ≡ suc q =
+      ap (λ k. k / n) (grind (arith, common_steps, length-bytes form lawful b, suc-mul q n)) ∙ mul-div_cancel (suc q) (some form lawful F) in
+      rw (long, padded) (cbc_last q (zero_block form) b X h)
 
   full : (X : List ℕ) → is_full form X ≡ true → finished form F (fed form F (blank form) X) ≡ cmac form F X
   unfolding finished pad is_full into_last

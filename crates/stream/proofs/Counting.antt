@@ -1,11 +1,11 @@
 -- The keystream gives CTR: within a block each byte is xored with the byte of the mask at its place, and a used-up block
 -- is followed by F of the next counter.
-use Rattle.std.proofs.Common.{◌≡◌, ℕ, zero, suc, ◌+◌, ◌*◌, ◌<◌, ◌≤◌, min, List, [], ◌∷◌, ◌++◌, length, get_or, take, drop, sym, refl, ap, ◌∙◌, ap₂, ⊎_elim, mod-eq_of_lt, suc-mul, zero-add, arith}
+use Rattle.std.proofs.Common.{◌≡◌, ℕ, zero, suc, ◌+◌, ◌*◌, ◌<◌, ◌≤◌, min, List, [], ◌∷◌, ◌++◌, length, get_or, take, drop, sym, refl, ◌∙◌, ap₂, mod-eq_of_lt, suc-mul, zero-mul, zero-add, arith}
 use lib.Bits.{bit_xor}
-use Rattle.std.proofs.lemmas.List.{length-take, length-take-le, length-drop, get_or-take, take-append-drop, drop_all, ext_get_or, nil_from_length}
+use Rattle.std.proofs.lemmas.List.{length-take, length-drop, get_or-take, take-append-drop, ext_get_or}
 use Rattle.std.proofs.lemmas.List.Sums.{fold-append}
+use Rattle.std.proofs.lemmas.Grind.{common_steps}
 use Rattle.std.proofs.lemmas.Bool.Decides.{nat_tests}
-use Rattle.std.proofs.lemmas.Bool.{cases_lt, cond-true, cond-false, lt-ltb, le-ltb}
 use Rattle.block.specs.Form.{Form}
 use Rattle.block.specs.Lawful.{Lawful}
 use Rattle.block.specs.Blocks.{byte_at, following, block_of}
@@ -14,7 +14,7 @@ use Rattle.block.proofs.Bytes.{byte-xor, byte-block_of}
 use Rattle.mode.specs.Strings.{into_first, ctr_blocks, ctr}
 use Rattle.mode.proofs.Ctr.{enough, some, length-into_first, get_or-into_first}
 use Rattle.mode.proofs.StringParts.{IsString-drop}
-use Rattle.stream.specs.Counting.{with_mask, stepped, enciphered, advanced}
+use Rattle.stream.specs.Counting.{stepped, enciphered, advanced}
 use Rattle.stream.specs.Laws.{Counts}
 use Rattle.stream.specs.declared.keystream.Keystream.{Keystream}
 
@@ -31,15 +31,6 @@ module _ {B : Type 0} (form : Form B) (lawful : Lawful form) (F : B → B) where
 
   abbrev at : B → B → ℕ → Keystream B
   at S m u = record { counter = S; mask = m; used = u }
-
-  same_mask : (S m : B) (u : ℕ) → u < form.size → with_mask form F (at S m u) ≡ at S m u
-  same_mask S m u l = cond-true _ _ _ (lt-ltb u form.size l)
-
-  next_mask : (S m : B) → with_mask form F (at S m form.size) ≡ at (following form S) (F S) 0
-  next_mask S m = cond-false _ _ _ (le-ltb form.size form.size (omega arith))
-
-  on : (S m : B) (u : ℕ) → u < form.size → stepped form F (at S m u) ≡ at S m (u + 1)
-  on S m u l = ap (λ r. at r.counter r.mask (r.used + 1)) (same_mask S m u l)
 
   pub length-enciphered : (k : Keystream B) (X : List ℕ) → length (enciphered form F k X) ≡ length X
   unfolding enciphered
@@ -97,33 +88,21 @@ module _ {B : Type 0} (form : Form B) (lawful : Lawful form) (F : B → B) where
       → enciphered form F (advanced form F (at S m 0) (take form.size X)) (drop form.size X)
       ≡ enciphered form F (at S m form.size) (drop form.size X)
   unfolding enciphered
-  back S m X =
-      let n = form.size in
-      ⊎_elim
-      (λ short. let none : drop n X ≡ [] = drop_all n X (omega arith) in rw none refl)
-      (λ long.
-      let full : 0 + length (take n X) ≡ n = omega (arith, length-take-le n X long) in
-      ap (λ k. enciphered form F k (drop n X))
-      (advanced_within S m 0 (take n X) (omega arith) ∙ ap (at S m) full))
-      (cases_lt (length X) n)
+  back S m X = grind (arith, common_steps, advanced_within S m 0 (take form.size X))
 
   by_blocks : (q : ℕ) (S m : B) (X : List ℕ)
       → IsString X
       → length X ≤ q * form.size
       → enciphered form F (at S m form.size) X ≡ ctr_blocks form F q S X
   unfolding enciphered ctr_blocks
-  by_blocks zero S m X h l =
-      let none : X ≡ [] = nil_from_length X (omega arith) in rw none refl
+  by_blocks zero S m X h l = grind (arith, common_steps, zero-mul form.size)
   by_blocks (suc q) S m X h l =
       let n = form.size in
       let k = at (following form S) (F S) 0 in
-      let short : length (drop n X) ≤ q * n = omega (arith, length-drop n X, suc-mul q n) in
-      renewed S m X
-      ∙ ap (enciphered form F k) (sym (take-append-drop n X))
-      ∙ joined k (take n X) (drop n X)
-      ∙ ap₂ ◌++◌
-      (front S X h)
-      (back (following form S) (F S) X ∙ by_blocks q (following form S) (F S) (drop n X) (IsString-drop n X h) short)
+      let parts = take-append-drop n X in
+      let both = joined k (take n X) (drop n X) in
+      let rest = by_blocks q (following form S) (F S) (drop n X) (IsString-drop n X h) (omega (arith, length-drop n X, suc-mul q n)) in
+      cc (renewed S m X, front S X h, back (following form S) (F S) X)
 
   pub counts : Counts form F
   unfolding ctr

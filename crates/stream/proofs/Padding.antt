@@ -39,8 +39,6 @@ module _ {B : Type 0} (form : Form B) (lawful : Lawful form) where
   pub block-filled_up : (X : List ℕ) (v k : ℕ)
       → block_of form (X ++ v ∷ replicate k 0) ≡ with_byte_at form (block_of form X) (length X) v
   block-filled_up X v k =
-      let at : 0 + length X ≡ length X = omega arith in
-      ap (block_of form) (sym (append_assoc X (v ∷ []) (replicate k 0)))
-      ∙ same_front _ (X ++ v ∷ []) (λ i l. get_or-zeros (X ++ v ∷ []) k i)
-      ∙ put_one_more X (zero_block form) 0 v
-      ∙ ap (λ q. with_byte_at form (block_of form X) q v) at
+      let parts = append_assoc X (v ∷ []) (replicate k 0) in
+      let same = same_front _ (X ++ v ∷ []) (λ i l. get_or-zeros (X ++ v ∷ []) k i) in
+      grind (arith, put_one_more X (zero_block form) 0 v)
