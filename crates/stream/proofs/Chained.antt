@@ -58,27 +58,21 @@ module _ {B : Type 0} (form : Form B) (lawful : Lawful form) (F : B → B) where
   blocks zero v X long fits = grind (arith, common_steps, zero-mul form.size, fitting X v (zero_block form) 0)
   blocks (suc q) v X long fits =
       let n = form.size in
-      let times : suc q * n ≡ q * n + n = suc-mul q n in
+      let start : Chain B = record { sum = v; held = zero_block form; count = 0 } in
+      let times = suc-mul q n in
       let more : n < length X = omega (arith, times, long (omega arith)) in
-      let first : length (take n X) ≡ n = length-take-le n X (omega arith) in
-      let rest : length (drop n X) ≡ length X - n = length-drop n X in
+      let first = length-take-le n X (omega arith) in
+      let rest = length-drop n X in
       let front : block_of form (take n X) ≡ block_of form X =
       same_front form lawful (take n X) X (λ i l. get_or-take n X i 0 l) in
-      let left : drop (q * n) (drop n X) ≡ drop (suc q * n) X =
-      drop-drop (q * n) n X ∙ ap (λ k. drop k X) (omega (arith, times)) in
-      let count : length (drop n X) - q * n ≡ length X - suc q * n = omega (arith, times, rest) in
-      ap (fed form F (record { sum = v; held = zero_block form; count = 0 })) (sym (take-append-drop n X))
-      ∙ sym (joined (record { sum = v; held = zero_block form; count = 0 }) (take n X) (drop n X))
-      ∙ ap (λ c. fed form F c (drop n X)) (fitting (take n X) v (zero_block form) 0 (omega (arith, first)))
-      ∙ ap (λ k. fed form F (record { sum = v; held = block_of form (take n X); count = k }) (drop n X)) (omega (arith, first))
-      ∙ passing (drop n X) v (block_of form (take n X)) (omega (arith, rest))
-      ∙ ap (λ b. fed form F (record { sum = F (xored form v b); held = zero_block form; count = 0 }) (drop n X)) front
-      ∙ blocks q (F (xored form v (block_of form X))) (drop n X)
-      (λ l. omega (arith, times, rest, long (omega arith)))
-      (omega (arith, times, rest))
-      ∙ ap₂ (λ h k. record { sum = cbc form F q (F (xored form v (block_of form X))) (drop n X); held = h; count = k })
-      (ap (block_of form) left)
-      count
+      let parts = take-append-drop n X in
+      let both = joined start (take n X) (drop n X) in
+      let one = fitting (take n X) v (zero_block form) 0 (omega arith) in
+      let next = passing (drop n X) v (block_of form (take n X)) (omega arith) in
+      let others =
+      blocks q (F (xored form v (block_of form X))) (drop n X) (λ l. omega (arith, long (omega arith))) (omega arith) in
+      let left = drop-drop (q * n) n X in
+      grind arith
 
   -- CBC of all blocks but the last, and then the last
   cbc_last : (q : ℕ) (v b : B) (X : List ℕ)

@@ -1,8 +1,8 @@
 -- The keystream gives CTR: within a block each byte is xored with the byte of the mask at its place, and a used-up block
 -- is followed by F of the next counter.
-use Rattle.std.proofs.Common.{◌≡◌, ℕ, zero, suc, ◌+◌, ◌*◌, ◌<◌, ◌≤◌, min, List, [], ◌∷◌, ◌++◌, length, get_or, take, drop, sym, refl, ◌∙◌, ap₂, mod-eq_of_lt, suc-mul, zero-mul, zero-add, arith}
+use Rattle.std.proofs.Common.{◌≡◌, ℕ, zero, suc, ◌+◌, ◌*◌, ◌<◌, ◌≤◌, min, List, [], ◌∷◌, ◌++◌, length, get_or, take, drop, sym, refl, ◌∙◌, suc-mul, zero-mul, arith}
 use lib.Bits.{bit_xor}
-use Rattle.std.proofs.lemmas.List.{length-take, length-drop, get_or-take, take-append-drop, ext_get_or}
+use Rattle.std.proofs.lemmas.List.{length-take, length-drop, take-append-drop, ext_get_or}
 use Rattle.std.proofs.lemmas.List.Sums.{fold-append}
 use Rattle.std.proofs.lemmas.Grind.{common_steps}
 use Rattle.std.proofs.lemmas.Bool.Decides.{nat_tests}
@@ -73,15 +73,12 @@ module _ {B : Type 0} (form : Form B) (lawful : Lawful form) (F : B → B) where
       ext_get_or 0 _ _
       (long ∙ omega arith ∙ sym (length-into_first form lawful F (F S) X))
       (λ i l.
-      let within : i < n = omega arith in
-      let inside : i < length X = omega arith in
       let taken : i < length (take n X) = omega (arith, length-take n X) in
-      get_or-enciphered (following form S) (F S) 0 (take n X) i taken (omega (arith, length-take n X))
-      ∙ ap₂ (λ x j. bit_xor x (byte_at form (F S) j))
-      (get_or-take n X i 0 within
-      ∙ sym (byte-block_of form lawful X i within ∙ mod-eq_of_lt (h i)))
-      (zero-add i)
-      ∙ sym (get_or-into_first form lawful F (F S) X i inside ∙ byte-xor form lawful (block_of form X) (F S) i))
+      let byte = get_or-enciphered (following form S) (F S) 0 (take n X) i taken (omega (arith, length-take n X)) in
+      let first = get_or-into_first form lawful F (F S) X i (omega arith) in
+      let sum = byte-xor form lawful (block_of form X) (F S) i in
+      let same = byte-block_of form lawful X i (omega arith) in
+      grind (arith, common_steps, h i))
 
   -- and those after it
   back : (S m : B) (X : List ℕ)
