@@ -1,10 +1,10 @@
 -- A chain comes to CMAC: fed a string it holds CBC of all blocks but the last, and the last block; finishing pads that one.
 use Rattle.std.proofs.Common.{◌≡◌, ℕ, zero, suc, ◌+◌, ◌-◌, ◌*◌, ◌/◌, ◌%◌, ◌<◌, ◌≤◌, true, false, ◌&&◌, eqb, ltb, List, [], ◌∷◌, ◌++◌, length, take, drop, sym, ap, ◌∙◌, ap₂, ⊎_elim, mod-lt, suc-mul, zero-mul, mul-div_cancel, arith}
-use Rattle.std.proofs.lemmas.List.{take-append-drop, length-take-le, length-drop, drop-drop, drop-take, drop-append-le, get_or-take, get_or_append_left, take-append-le, length-append, length-replicate}
+use Rattle.std.proofs.lemmas.List.{take-append-drop, length-take-le, length-drop, drop-drop, drop-take, drop-append-le, get_or-take, take-append-le, length-append, length-replicate}
 use Rattle.std.proofs.lemmas.List.Sums.{fold-append}
 use Rattle.std.proofs.lemmas.Grind.{common_steps}
 use Rattle.std.proofs.lemmas.Bool.Decides.{nat_tests}
-use Rattle.std.proofs.lemmas.Bool.{cond-true, cond-false, lt-ltb, le-ltb, ltb-true, eqb-true, cases_Bool, and_parts}
+use Rattle.std.proofs.lemmas.Bool.{cond-true, cond-false, lt-ltb, ltb-true, eqb-true, cases_Bool, and_parts}
 use Rattle.std.proofs.lemmas.Nat.{div-add-mod'}
 use Rattle.block.specs.Form.{Form}
 use Rattle.block.specs.Lawful.{Lawful}
@@ -84,16 +84,13 @@ module _ {B : Type 0} (form : Form B) (lawful : Lawful form) (F : B → B) where
       let n = form.size in
       let times : suc q * n ≡ n + q * n = suc-mul q n ∙ omega arith in
       let Y = take (suc q * n) X ++ bytes_of form b in
-      let long : length (take (suc q * n) X) ≡ suc q * n = length-take-le _ X h in
+      let long = length-take-le (suc q * n) X h in
       let front : block_of form Y ≡ block_of form X =
-      same_front form lawful Y X
-      (λ i l. get_or_append_left (take (suc q * n) X) _ 0 i (omega (arith, long, times))
-      ∙ get_or-take (suc q * n) X i 0 (omega (arith, times))) in
+      same_front form lawful Y X (λ i l. grind (arith, common_steps)) in
       let back : drop n Y ≡ take (q * n) (drop n X) ++ bytes_of form b =
-      drop-append-le n (take (suc q * n) X) (bytes_of form b) (omega (arith, long, times))
+      drop-append-le n (take (suc q * n) X) (bytes_of form b) (omega arith)
       ∙ ap (λ Z. Z ++ bytes_of form b) (ap (λ k. drop n (take k X)) times ∙ drop-take n (q * n) X) in
-      ap₂ (λ a Z. cbc form F (suc q) (F (xored form v a)) Z) front back
-      ∙ cbc_last q (F (xored form v (block_of form X))) b (drop n X) (omega (arith, times, length-drop n X))
+      cc (cbc_last q (F (xored form v (block_of form X))) b (drop n X) (omega (arith, length-drop n X)))
 
   -- CMAC where the padded string is q blocks and a last one
   cmac_last : (q : ℕ) (b : B) (X : List ℕ)
@@ -113,15 +110,12 @@ module _ {B : Type 0} (form : Form B) (lawful : Lawful form) (F : B → B) where
       let n = form.size in
       let q = length X / n - 1 in
       let parts = and_parts _ _ f in
-      let some_bytes : 0 < length X = ltb-true 0 (length X) parts.0 in
-      let even : length X % n ≡ 0 = eqb-true (length X % n) 0 parts.1 in
-      let times : length X ≡ q * n + n = whole_blocks _ _ n (length X) some_bytes even (div-add-mod' (length X) n) in
-      let front : length X - n ≡ q * n = omega (arith, times) in
+      let times : length X ≡ q * n + n =
+      whole_blocks _ _ n (length X) (ltb-true 0 (length X) parts.0) (eqb-true (length X % n) 0 parts.1) (div-add-mod' (length X) n) in
       let last : B = xored form (block_of form (drop (q * n) X)) (two_l form F) in
-      ap (finished form F) (blocks q (zero_block form) X (λ l. omega (arith, times, some form lawful F)) (omega (arith, times)))
-      ∙ cond-false _ _ _ (le-ltb (length X - q * n) n (omega (arith, times)))
-      ∙ sym (cmac_last q last X (omega (arith, times))
-      (cond-true _ _ _ f ∙ ap (λ k. take k X ++ bytes_of form (xored form (block_of form (drop k X)) (two_l form F))) front))
+      let held = blocks q (zero_block form) X (λ l. omega (arith, some form lawful F)) (omega arith) in
+      let sum = cmac_last q last X (omega arith) in
+      grind (arith, nat_tests)
 
   short : (X : List ℕ) → is_full form X ≡ false → finished form F (fed form F (blank form) X) ≡ cmac form F X
   unfolding finished pad is_full into_last filled_up
