@@ -1,10 +1,10 @@
 -- A chain comes to CMAC: fed a string it holds CBC of all blocks but the last, and the last block; finishing pads that one.
-use Rattle.std.proofs.Common.{◌≡◌, ℕ, zero, suc, ◌+◌, ◌-◌, ◌*◌, ◌/◌, ◌%◌, ◌<◌, ◌≤◌, true, false, ◌&&◌, eqb, ltb, List, [], ◌∷◌, ◌++◌, length, take, drop, sym, ap, ◌∙◌, ap₂, ⊎_elim, mod-lt, suc-mul, zero-mul, mul-div_cancel, arith}
+use Rattle.std.proofs.Common.{◌≡◌, ℕ, zero, suc, ◌+◌, ◌-◌, ◌*◌, ◌/◌, ◌%◌, ◌<◌, ◌≤◌, true, false, ◌&&◌, eqb, ltb, List, [], ◌∷◌, ◌++◌, length, take, drop, replicate, sym, ap, ◌∙◌, ⊎_elim, mod-lt, suc-mul, zero-mul, mul-div_cancel, arith}
 use Rattle.std.proofs.lemmas.List.{take-append-drop, length-take-le, length-drop, drop-drop, drop-take, drop-append-le, get_or-take, take-append-le, length-append, length-replicate}
 use Rattle.std.proofs.lemmas.List.Sums.{fold-append}
 use Rattle.std.proofs.lemmas.Grind.{common_steps}
 use Rattle.std.proofs.lemmas.Bool.Decides.{nat_tests}
-use Rattle.std.proofs.lemmas.Bool.{cond-true, cond-false, lt-ltb, ltb-true, eqb-true, cases_Bool, and_parts}
+use Rattle.std.proofs.lemmas.Bool.{ltb-true, eqb-true, cases_Bool, and_parts}
 use Rattle.std.proofs.lemmas.Nat.{div-add-mod'}
 use Rattle.block.specs.Form.{Form}
 use Rattle.block.specs.Lawful.{Lawful}
@@ -126,25 +126,18 @@ module _ {B : Type 0} (form : Form B) (lawful : Lawful form) (F : B → B) where
       let rest = mod-lt (length X) (some form lawful F) in
       let zeros = n - 1 - length X % n in
       let Y = filled_up form X in
-      let long : length Y ≡ q * n + n =
-      length-append X _ ∙ omega (arith, whole, rest, length-replicate {A = ℕ} zeros 0) in
-      let front : length Y - n ≡ q * n = omega (arith, long) in
       let X' = drop (q * n) X in
-      let count : length X' ≡ length X - q * n = length-drop (q * n) X in
+      let long : length Y ≡ q * n + n =
+      length-append X _ ∙ omega (arith, length-replicate {A = ℕ} zeros 0) in
       let left : block_of form (drop (q * n) Y) ≡ with_byte_at form (block_of form X') (length X - q * n) 0x80 =
-      ap (block_of form) (drop-append-le (q * n) X _ (omega (arith, whole)))
+      ap (block_of form) (drop-append-le (q * n) X _ (omega arith))
       ∙ block-filled_up form lawful X' 0x80 zeros
-      ∙ ap (λ k. with_byte_at form (block_of form X') k 0x80) count in
+      ∙ ap (λ k. with_byte_at form (block_of form X') k 0x80) (length-drop (q * n) X) in
+      let front = take-append-le (q * n) X (0x80 ∷ replicate zeros 0) (omega arith) in
       let last : B = xored form (with_byte_at form (block_of form X') (length X - q * n) 0x80) (four_l form F) in
-      let more : 0 < q → q * n < length X = short_last q _ n (length X) (some form lawful F) f whole in
-      ap (finished form F) (blocks q (zero_block form) X more (omega (arith, whole, rest)))
-      ∙ cond-true _ _ _ (lt-ltb (length X - q * n) n (omega (arith, whole, rest)))
-      ∙ sym (cmac_last q last X (omega (arith, whole))
-      (cond-false _ _ _ f
-      ∙ ap (λ k. take k Y ++ bytes_of form (xored form (block_of form (drop k Y)) (four_l form F))) front
-      ∙ ap₂ (λ Z b. Z ++ bytes_of form (xored form b (four_l form F)))
-      (take-append-le (q * n) X _ (omega (arith, whole)))
-      left))
+      let held = blocks q (zero_block form) X (short_last q _ n (length X) (some form lawful F) f whole) (omega arith) in
+      let sum = cmac_last q last X (omega arith) in
+      grind (arith, nat_tests)
 
   plain : (X : List ℕ) → finished form F (fed form F (blank form) X) ≡ cmac form F X
   plain X = ⊎_elim (full X) (short X) (cases_Bool (is_full form X))
