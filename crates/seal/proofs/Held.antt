@@ -41,7 +41,7 @@ module _ {C B : Type 0} (form : Form B) (lawful : Lawful form) (F : C → B → 
     pub same : own ≡ origin.key
 
   of : {own : Key C B} → OnKey own → own.cipher ≡ origin.cipher
-  of k = ap (λ x. x.cipher) k.same ∙ (kept form F _ _ _ k.run).same
+  of k = ap (λ x. x.cipher) k.same ∙ (kept form F _ k.run).same
 
   -- a step that leaves the key as it is
   same_key : {own after : Key C B} → OnKey own → after ≡ own → OnKey after
@@ -58,7 +58,7 @@ module _ {C B : Type 0} (form : Form B) (lawful : Lawful form) (F : C → B → 
   header_held (begun keys n b) =
       record {
         on = record { run = keys; same = b.taken };
-        block = b.block ∙ ap (λ c. nonce_block form (F c) n) (kept form F _ _ _ keys).same;
+        block = b.block ∙ ap (λ c. nonce_block form (F c) n) (kept form F _ keys).same;
         held = b.none ∙ none_yet form G;
         early = refl;
       }
@@ -143,7 +143,7 @@ module _ {C B : Type 0} (form : Form B) (lawful : Lawful form) (F : C → B → 
 
   pub message_held : {so_far : Transcript} {s : MessageStage C B} → AtMessage form F origin so_far s → MessageHeld so_far s
   message_held (begun_prepared keys n p) =
-      let k = kept form F _ _ _ keys in
+      let k = kept form F _ keys in
       no_message n origin.prepared
       (record { run = keys; same = refl })
       (ap (λ c. nonce_block form (F c) n) k.same)
