@@ -26,7 +26,7 @@ use Rattle.key.proofs.Kept.{kept}
 use Rattle.seal.specs.Steps.{Joining, NoMessage, Sealing, Tagging}
 use Rattle.seal.specs.Transcripts.{Origin, Transcript, unsealed, with_header, with_message, with_tag}
 use Rattle.seal.specs.Runs.{AtHeader, begun, pieced, AtMessage, begun_prepared, left, sealed, AtTag, closed, tagged}
-use Rattle.seal.specs.Runs.{Ended, GivenBack, IsTag, Faithful, HeaderAnswer, MessageAnswer}
+use Rattle.seal.specs.Runs.{Ended, at_header, at_message, at_tag, GivenBack, IsTag, Faithful, HeaderAnswer, MessageAnswer}
 use Rattle.seal.specs.declared.header.HeaderStage.{HeaderStage}
 use Rattle.seal.specs.declared.message.MessageStage.{MessageStage}
 use Rattle.seal.specs.declared.tag.TagStage.{TagStage}
@@ -218,8 +218,13 @@ module _ {C B : Type 0} (form : Form B) (lawful : Lawful form) (F : C → B → 
   tag_held {t = t} (tagged {so_far = so_far} run out filled r p) = after_tag so_far t out filled r p (tag_held run)
 
   -- ## what is given back and what is answered
-  pub given_back : {own : Key C B} → OnKey own → Ended form F origin own → GivenBack form F origin own
-  given_back k e = record { ended = e; same = k.same; run = served k.run k.same }
+  on_key : {own : Key C B} → Ended form F origin own → OnKey own
+  on_key (at_header run) = (header_held run).on
+  on_key (at_message run) = (message_held run).on
+  on_key (at_tag run) = (tag_held run).on
+
+  pub given_back : {own : Key C B} → Ended form F origin own → GivenBack form F origin own
+  given_back e = let k = on_key e in record { ended = e; same = k.same; run = served k.run k.same }
 
   pub header_answer : (so_far : Transcript) (s t : HeaderStage C B) (piece : List ℕ) (r : Result ℕ RecordFault)
       → HeaderHeld so_far s
