@@ -2,6 +2,8 @@
 use Rattle.std.proofs.Common.{◌<◌, length, Ok, arith}
 use Rattle.std.proofs.lemmas.Grind.{common_steps}
 use Rattle.std.proofs.lemmas.Bool.Decides.{nat_tests}
+use Rattle.std.proofs.lemmas.List.{take_more, take_more_set}
+use Rattle.block.specs.Blocks.{bytes_of}
 use Rattle.block.proofs.Bytes.{length-bytes, get_or-bytes}
 use Rattle.seal.specs.Steps.{Tagged}
 use Rattle.seal.specs.Runs.{tagged}
@@ -13,10 +15,13 @@ loop-place-preserved g c =
     let form = g.C.Block.Block.form in
     let lawful = g.met.C.Block.Block.lawful in
     let b = c.args.self.now.block in
-    let long = length-bytes form lawful b in
-    let byte = get_or-bytes form lawful b c.loop-place.place in
-    let fits : c.loop-place.place < form.size = grind (arith, nat_tests) in
-    grind (arith, common_steps)
+    let i = c.loop-place.place in
+    let fits : i < form.size = grind (arith, nat_tests) in
+    cc (
+      take_more_set c.loop-place.out i c.byte.result (omega arith),
+      take_more (bytes_of form b) i 0 (omega (arith, length-bytes form lawful b)),
+      get_or-bytes form lawful b i,
+    )
 
 pub returns : goal.returns
 returns g c =
