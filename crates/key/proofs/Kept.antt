@@ -13,18 +13,18 @@ module _ {C B : Type 0} (form : Form B) (F : C → B → B) (cipher : C) where
     pub same : key.cipher ≡ cipher
     pub block : key.prepared ≡ header_block form (F cipher) last
 
-  after : (last header : List ℕ) (r : Result ℕ RecordFault) (key next : Key C B)
+  after : {last : List ℕ} {key next : Key C B} (header : List ℕ) (r : Result ℕ RecordFault)
       → Kept last key
       → Prepares form F key header r next
       → Kept (last_of last header r) next
-  after last header (Ok n) key next k p =
+  after header (Ok n) k p =
       record {
         same = p.same ∙ k.same;
         block = p.held ∙ ap (λ c. header_block form (F c) header) k.same;
       }
-  after last header (Err e) key next k p = rw p.same k
+  after header (Err e) k p = rw p.same k
 
-  pub kept : (last : List ℕ) (key : Key C B) → Keys form F cipher last key → Kept last key
-  kept last key (made p) = record { same = p.same; block = p.empty }
-  kept last key (prepared {last = l} {key = k} run header r p) = after l header r k key (kept l k run) p
-  kept last key (served {key = k} run p) = rw p (kept last k run)
+  pub kept : {last : List ℕ} {key : Key C B} → Keys form F cipher last key → Kept last key
+  kept (made p) = record { same = p.same; block = p.empty }
+  kept (prepared run header r p) = after header r (kept run) p
+  kept (served run p) = rw p (kept run)

@@ -13,6 +13,12 @@ abbrev pub joined : (so_far piece : List ℕ) → Result ℕ RecordFault → Lis
 joined so_far piece (Ok _) = so_far ++ piece
 joined so_far piece (Err _) = so_far
 
+-- the refusal of a header of so many bytes is 1, comes exactly past the limit, and changes nothing
+pub record TooLong {A : Type 0} (bytes : ℕ) (fault : RecordFault) (before after : A) : Type 0 where
+  pub number : record_number fault ≡ 1
+  pub past : header_max < bytes
+  pub same : after ≡ before
+
 module _ {B : Type 0} (form : Form B) where
   -- no piece has come yet
   abbrev pub no_header : Header B
@@ -26,15 +32,9 @@ module _ {B : Type 0} (form : Form B) where
       pub chain : after.chain ≡ fed form F h.chain piece
       pub count : after.count ≡ answer
 
-    -- a refusal is 1, comes exactly past the limit, and changes nothing
-    pub record Refused (h : Header B) (piece : List ℕ) (fault : RecordFault) (after : Header B) : Type 0 where
-      pub number : record_number fault ≡ 1
-      pub past : header_max < h.count + length piece
-      pub same : after ≡ h
-
     abbrev pub Joins : (h : Header B) (piece : List ℕ) → Result ℕ RecordFault → (after : Header B) → Type 0
     Joins h piece (Ok answer) after = Joined h piece answer after
-    Joins h piece (Err fault) after = Refused h piece fault after
+    Joins h piece (Err fault) after = TooLong (h.count + length piece) fault h after
 
     abbrev pub ended : Header B → B
     ended h = finished form F h.chain

@@ -1,10 +1,10 @@
 -- What each call with a key does, for every key and every input: the contracts cite these. Assumes nothing.
-use Rattle.std.specs.Prelude.{◌≡◌, ℕ, ◌<◌, ◌≤◌, List, [], length, Ok, Err, Result}
-use Rattle.wire.specs.Faults.{record_number}
+use Rattle.std.specs.Prelude.{◌≡◌, ℕ, ◌≤◌, List, [], length, Ok, Err, Result}
 use Rattle.wire.specs.Limits.{header_max}
 use Rattle.wire.specs.declared.fault.RecordFault.{RecordFault}
 use Rattle.block.specs.Form.{Form}
 use Rattle.mode.specs.Strings.{header_block}
+use Rattle.key.specs.Headers.{TooLong}
 use Rattle.key.specs.declared.key.Key.{Key}
 
 module _ {C B : Type 0} (form : Form B) (F : C → B → B) where
@@ -20,15 +20,9 @@ module _ {C B : Type 0} (form : Form B) (F : C → B → B) where
     pub same : after.cipher ≡ key.cipher
     pub held : after.prepared ≡ header_block form (F key.cipher) header
 
-  -- a refusal is 1, comes exactly past the limit, and changes nothing
-  pub record Unprepared (key : Key C B) (header : List ℕ) (fault : RecordFault) (after : Key C B) : Type 0 where
-    pub number : record_number fault ≡ 1
-    pub past : header_max < length header
-    pub same : after ≡ key
-
   abbrev pub Prepares : (key : Key C B) (header : List ℕ) → Result ℕ RecordFault → (after : Key C B) → Type 0
   Prepares key header (Ok answer) after = Prepared key header answer after
-  Prepares key header (Err fault) after = Unprepared key header fault after
+  Prepares key header (Err fault) after = TooLong (length header) fault key after
 
 -- a record of any kind was begun on a key, and ended or abandoned at any of its stages: it gave back an equal key
 abbrev pub Served : {C B : Type 0} → (key after : Key C B) → Type 0

@@ -1,6 +1,6 @@
 -- What a stage holds after every run that leads to it, and the rule: one induction over the calls, by the laws of the
 -- streams.
-use Rattle.std.proofs.Common.{◌≡◌, ℕ, ◌+◌, ◌≤◌, List, [], ◌++◌, length, take, Ok, Err, Result, sym, refl, ap, ◌∙◌, ap₂, subst, arith}
+use Rattle.std.proofs.Common.{◌≡◌, ℕ, ◌≤◌, List, [], length, take, Ok, Err, Result, sym, refl, ap, ◌∙◌, ap₂, subst, arith}
 use Rattle.std.proofs.lemmas.List.{length-append, length-take-le, take_at}
 use Rattle.std.proofs.lemmas.List.Elements.{All-nil, All-cons, All-same}
 use Rattle.std.proofs.lemmas.Bool.{and_parts, leb-true}
@@ -8,12 +8,12 @@ use Rattle.wire.specs.Limits.{is_tag_len_of}
 use Rattle.wire.specs.declared.fault.RecordFault.{RecordFault}
 use Rattle.block.specs.Form.{Form}
 use Rattle.block.specs.Lawful.{Lawful}
-use Rattle.block.specs.Blocks.{end_block, xored, bytes_of}
+use Rattle.block.specs.Blocks.{end_block, bytes_of}
 use Rattle.block.specs.ByBytes.{IsString}
 use Rattle.block.proofs.Bytes.{length-bytes}
 use Rattle.mode.specs.Strings.{nonce_block, header_block, ciphertext_block, tag_block_of, ciphertext as ciphertext_of, tag as tag_of}
 use Rattle.mode.proofs.StringParts.{IsString-append}
-use Rattle.stream.specs.Chaining.{holding, fed, finished}
+use Rattle.stream.specs.Chaining.{holding, fed}
 use Rattle.stream.specs.Counting.{starting_at, enciphered, advanced}
 use Rattle.stream.specs.declared.keystream.Keystream.{Keystream}
 use Rattle.stream.proofs.Chained.{chains}
@@ -26,7 +26,7 @@ use Rattle.key.proofs.Kept.{kept}
 use Rattle.seal.specs.Steps.{Joining, NoMessage, Sealing, Tagging}
 use Rattle.seal.specs.Transcripts.{Origin, Transcript, unsealed, with_header, with_message, with_tag}
 use Rattle.seal.specs.Runs.{AtHeader, begun, pieced, AtMessage, begun_prepared, left, sealed, AtTag, closed, tagged}
-use Rattle.seal.specs.Runs.{Ended, GivenBack, IsTag, Faithful, HeaderAnswer, MessageAnswer}
+use Rattle.seal.specs.Runs.{Ended, at_header, at_message, at_tag, GivenBack, IsTag, Faithful, HeaderAnswer, MessageAnswer}
 use Rattle.seal.specs.declared.header.HeaderStage.{HeaderStage}
 use Rattle.seal.specs.declared.message.MessageStage.{MessageStage}
 use Rattle.seal.specs.declared.tag.TagStage.{TagStage}
@@ -41,7 +41,7 @@ module _ {C B : Type 0} (form : Form B) (lawful : Lawful form) (F : C → B → 
     pub same : own ≡ origin.key
 
   of : {own : Key C B} → OnKey own → own.cipher ≡ origin.cipher
-  of k = ap (λ x. x.cipher) k.same ∙ (kept form F _ _ _ k.run).same
+  of k = ap (λ x. x.cipher) k.same ∙ (kept form F _ k.run).same
 
   -- a step that leaves the key as it is
   same_key : {own after : Key C B} → OnKey own → after ≡ own → OnKey after
@@ -58,7 +58,7 @@ module _ {C B : Type 0} (form : Form B) (lawful : Lawful form) (F : C → B → 
   header_held (begun keys n b) =
       record {
         on = record { run = keys; same = b.taken };
-        block = b.block ∙ ap (λ c. nonce_block form (F c) n) (kept form F _ _ _ keys).same;
+        block = b.block ∙ ap (λ c. nonce_block form (F c) n) (kept form F _ keys).same;
         held = b.none ∙ none_yet form G;
         early = refl;
       }
@@ -127,23 +127,18 @@ module _ {C B : Type 0} (form : Form B) (lawful : Lawful form) (F : C → B → 
         on = same_key h.on p.same;
         nonce_block = p.nonce_block ∙ h.nonce_block;
         header_block = p.header_block ∙ h.header_block;
-        counter = p.counter
-            ∙ ap₂ (λ c k. advanced form (F c) k piece) c h.counter
-            ∙ (counts form lawful G).moved S M piece;
-        chain = p.chain
-            ∙ ap₂ (λ c k. fed form (F c) k (enciphered form (F s.key.cipher) s.keystream piece)) c h.chain
-            ∙ ap (fed form G (fed form G (holding form (end_block form 2)) so_far.ciphertext)) (sealed ∙ sym put)
-            ∙ (chains form lawful G).joined (holding form (end_block form 2)) so_far.ciphertext (take (length piece) filled);
-        count = p.count ∙ p.counted ∙ ap (λ k. k + length piece) h.count ∙ sym (length-append M piece);
+        counter = cc ((counts form lawful G).moved S M piece);
+        chain = cc ((chains form lawful G).joined (holding form (end_block form 2)) so_far.ciphertext (take (length piece) filled));
+        count = omega (arith, p.count, p.counted, h.count, length-append M piece);
         string = IsString-append M piece h.string string;
-        text = ap₂ ◌++◌ h.text put ∙ sym ((counts form lawful G).joined S M piece);
+        text = cc ((counts form lawful G).joined S M piece);
         untagged = h.untagged;
       }
   after_piece so_far s t piece string out filled (Err e) p h = rw p.same h
 
   pub message_held : {so_far : Transcript} {s : MessageStage C B} → AtMessage form F origin so_far s → MessageHeld so_far s
   message_held (begun_prepared keys n p) =
-      let k = kept form F _ _ _ keys in
+      let k = kept form F _ keys in
       no_message n origin.prepared
       (record { run = keys; same = refl })
       (ap (λ c. nonce_block form (F c) n) k.same)
@@ -206,20 +201,19 @@ module _ {C B : Type 0} (form : Form B) (lawful : Lawful form) (F : C → B → 
       let h = message_held run in
       record {
         on = same_key h.on p.same;
-        sum = p.sum
-            ∙ ap₂ (λ a b. xored form (xored form a b) (finished form (F s.key.cipher) s.mac))
-            h.nonce_block
-            h.header_block
-            ∙ ap (λ a. xored form (xored form (nonce_block form G so_far.nonce) (header_block form G so_far.header)) a)
-            (ap₂ (λ c m. finished form (F c) m) (of h.on) h.chain
-            ∙ (chains form lawful G).tweaked 2 so_far.ciphertext);
+        sum = cc (of h.on, (chains form lawful G).tweaked 2 so_far.ciphertext);
         faithful = faithful_message h;
       }
   tag_held {t = t} (tagged {so_far = so_far} run out filled r p) = after_tag so_far t out filled r p (tag_held run)
 
   -- ## what is given back and what is answered
-  pub given_back : {own : Key C B} → OnKey own → Ended form F origin own → GivenBack form F origin own
-  given_back k e = record { ended = e; same = k.same; run = served k.run k.same }
+  on_key : {own : Key C B} → Ended form F origin own → OnKey own
+  on_key (at_header run) = (header_held run).on
+  on_key (at_message run) = (message_held run).on
+  on_key (at_tag run) = (tag_held run).on
+
+  pub given_back : {own : Key C B} → Ended form F origin own → GivenBack form F origin own
+  given_back e = let k = on_key e in record { ended = e; same = k.same; run = served k.run k.same }
 
   pub header_answer : (so_far : Transcript) (s t : HeaderStage C B) (piece : List ℕ) (r : Result ℕ RecordFault)
       → HeaderHeld so_far s

@@ -1,8 +1,10 @@
 -- A chain comes to CMAC: fed a string it holds CBC of all blocks but the last, and the last block; finishing pads that one.
-use Rattle.std.proofs.Common.{◌≡◌, ℕ, zero, suc, ◌+◌, ◌-◌, ◌*◌, ◌/◌, ◌%◌, ◌<◌, ◌≤◌, true, false, ◌&&◌, eqb, ltb, List, [], ◌∷◌, ◌++◌, length, take, drop, sym, ap, ◌∙◌, ap₂, ⊎_elim, mod-lt, suc-mul, zero-mul, mul-div_cancel, arith}
-use Rattle.std.proofs.lemmas.List.{take-append-drop, length-take-le, length-drop, drop-drop, drop-take, drop-append-le, get_or-take, get_or_append_left, take-append-le, length-append, length-replicate}
+use Rattle.std.proofs.Common.{◌≡◌, ℕ, zero, suc, ◌+◌, ◌-◌, ◌*◌, ◌/◌, ◌%◌, ◌<◌, ◌≤◌, true, false, ◌&&◌, eqb, ltb, List, [], ◌∷◌, ◌++◌, length, take, drop, replicate, sym, ap, ◌∙◌, ⊎_elim, mod-lt, suc-mul, zero-mul, mul-div_cancel, arith}
+use Rattle.std.proofs.lemmas.List.{take-append-drop, length-take-le, length-drop, drop-drop, drop-take, drop-append-le, get_or-take, take-append-le, length-append, length-replicate}
 use Rattle.std.proofs.lemmas.List.Sums.{fold-append}
-use Rattle.std.proofs.lemmas.Bool.{cond-true, cond-false, lt-ltb, le-ltb, ltb-true, ltb-false, eqb-true, eqb-false, cases_Bool, cases_order, and_parts, and_cases}
+use Rattle.std.proofs.lemmas.Grind.{common_steps}
+use Rattle.std.proofs.lemmas.Bool.Decides.{nat_tests}
+use Rattle.std.proofs.lemmas.Bool.{ltb-true, eqb-true, cases_Bool, and_parts}
 use Rattle.std.proofs.lemmas.Nat.{div-add-mod'}
 use Rattle.block.specs.Form.{Form}
 use Rattle.block.specs.Lawful.{Lawful}
@@ -11,25 +13,17 @@ use Rattle.block.proofs.Bytes.{length-bytes, by_bytes}
 use Rattle.mode.specs.Strings.{into_last, is_full, filled_up, two_l, four_l, pad, cbc, cmac, omac}
 use Rattle.mode.proofs.Ctr.{some}
 use Rattle.stream.specs.declared.chain.Chain.{Chain}
-use Rattle.stream.specs.Chaining.{blank, holding, with_room, pushed, fed, finished}
+use Rattle.stream.specs.Chaining.{blank, holding, pushed, fed, finished}
 use Rattle.stream.specs.Laws.{Chains}
 use Rattle.stream.proofs.Padding.{same_front, block-filled_up}
 
 -- a count of whole blocks that is not 0 has a last block
 whole_blocks : (q r n x : ℕ) → 0 < x → r ≡ 0 → q * n + r ≡ x → x ≡ (q - 1) * n + n
-whole_blocks zero r n x some even sum = absurd (omega (arith, zero-mul n))
-whole_blocks (suc q) r n x some even sum =
-    let before : suc q - 1 ≡ q = omega arith in
-    rw before (omega (arith, suc-mul q n))
+whole_blocks q r n x some even sum = grind (arith, nat_tests, suc-mul (q - 1) n)
 
 -- otherwise the last block is short, or the string empty
 short_last : (q r n x : ℕ) → 0 < n → (ltb 0 x && eqb r 0) ≡ false → q * n + r ≡ x → 0 < q → q * n < x
-short_last zero r n x wide f sum some = absurd (omega arith)
-short_last (suc q) r n x wide f sum some =
-    ⊎_elim
-    (λ none. let empty : x ≤ 0 = ltb-false 0 x none in absurd (omega (arith, suc-mul q n)))
-    (λ odd. ⊎_elim (λ e. absurd (eqb-false r 0 odd e)) (λ way. ⊎_elim (λ l. omega arith) (λ l. omega arith) way) (cases_order r 0))
-    (and_cases _ _ f)
+short_last q r n x wide f sum some = grind (arith, nat_tests)
 
 module _ {B : Type 0} (form : Form B) (lawful : Lawful form) (F : B → B) where
   joined : (c : Chain B) (X Y : List ℕ) → fed form F (fed form F c X) Y ≡ fed form F c (X ++ Y)
@@ -42,16 +36,8 @@ module _ {B : Type 0} (form : Form B) (lawful : Lawful form) (F : B → B) where
       → fed form F (record { sum = v; held = h; count = p }) X
       ≡ record { sum = v; held = put_from form h p X; count = p + length X }
   unfolding fed
-  fitting [] v h p fits =
-      let e : p ≡ p + 0 = omega arith in
-      ap (λ k. record { sum = v; held = h; count = k }) e
-  fitting (x ∷ X) v h p fits =
-      let e : p + 1 + length X ≡ p + length (x ∷ X) = omega arith in
-      let c : Chain B = record { sum = v; held = h; count = p } in
-      let room : with_room form F c ≡ c = cond-true _ _ _ (lt-ltb p form.size (omega arith)) in
-      ap (λ r. fed form F (record { sum = r.sum; held = with_byte_at form r.held r.count x; count = r.count + 1 }) X) room
-      ∙ fitting X v (with_byte_at form h p x) (p + 1) (omega arith)
-      ∙ ap (λ k. record { sum = v; held = put_from form h p (x ∷ X); count = k }) e
+  fitting [] v h p fits = grind arith
+  fitting (x ∷ X) v h p fits = grind (arith, nat_tests, fitting X v (with_byte_at form h p x) (p + 1))
 
   -- before the next byte a full block goes into the sum
   passing : (X : List ℕ) (v h : B)
@@ -60,13 +46,7 @@ module _ {B : Type 0} (form : Form B) (lawful : Lawful form) (F : B → B) where
       ≡ fed form F (record { sum = F (xored form v h); held = zero_block form; count = 0 }) X
   unfolding fed
   passing [] v h l = absurd (omega arith)
-  passing (x ∷ X) v h l =
-      let c : Chain B = record { sum = v; held = h; count = form.size } in
-      let d : Chain B = record { sum = F (xored form v h); held = zero_block form; count = 0 } in
-      let same : with_room form F c ≡ with_room form F d =
-      cond-false _ _ _ (le-ltb form.size form.size (omega arith))
-      ∙ sym (cond-true _ _ _ (lt-ltb 0 form.size (some form lawful F))) in
-      ap (λ r. fed form F (record { sum = r.sum; held = with_byte_at form r.held r.count x; count = r.count + 1 }) X) same
+  passing (x ∷ X) v h l = grind (arith, nat_tests, some form lawful F)
 
   -- what a chain holds after q blocks and a last one, which is empty only if the string is
   blocks : (q : ℕ) (v : B) (X : List ℕ)
@@ -75,58 +55,42 @@ module _ {B : Type 0} (form : Form B) (lawful : Lawful form) (F : B → B) where
       → fed form F (record { sum = v; held = zero_block form; count = 0 }) X
       ≡ record { sum = cbc form F q v X; held = block_of form (drop (q * form.size) X); count = length X - q * form.size }
   unfolding cbc
-  blocks zero v X long fits =
-      let none : 0 * form.size ≡ 0 = zero-mul form.size in
-      let whole : 0 + length X ≡ length X - 0 * form.size = omega (arith, none) in
-      fitting X v (zero_block form) 0 (omega (arith, none))
-      ∙ ap₂ (λ h k. record { sum = v; held = h; count = k }) (ap (λ k. block_of form (drop k X)) (sym none)) whole
+  blocks zero v X long fits = grind (arith, common_steps, zero-mul form.size, fitting X v (zero_block form) 0)
   blocks (suc q) v X long fits =
       let n = form.size in
-      let times : suc q * n ≡ q * n + n = suc-mul q n in
+      let start : Chain B = record { sum = v; held = zero_block form; count = 0 } in
+      let times = suc-mul q n in
       let more : n < length X = omega (arith, times, long (omega arith)) in
-      let first : length (take n X) ≡ n = length-take-le n X (omega arith) in
-      let rest : length (drop n X) ≡ length X - n = length-drop n X in
+      let first = length-take-le n X (omega arith) in
+      let rest = length-drop n X in
       let front : block_of form (take n X) ≡ block_of form X =
       same_front form lawful (take n X) X (λ i l. get_or-take n X i 0 l) in
-      let left : drop (q * n) (drop n X) ≡ drop (suc q * n) X =
-      drop-drop (q * n) n X ∙ ap (λ k. drop k X) (omega (arith, times)) in
-      let count : length (drop n X) - q * n ≡ length X - suc q * n = omega (arith, times, rest) in
-      ap (fed form F (record { sum = v; held = zero_block form; count = 0 })) (sym (take-append-drop n X))
-      ∙ sym (joined (record { sum = v; held = zero_block form; count = 0 }) (take n X) (drop n X))
-      ∙ ap (λ c. fed form F c (drop n X)) (fitting (take n X) v (zero_block form) 0 (omega (arith, first)))
-      ∙ ap (λ k. fed form F (record { sum = v; held = block_of form (take n X); count = k }) (drop n X)) (omega (arith, first))
-      ∙ passing (drop n X) v (block_of form (take n X)) (omega (arith, rest))
-      ∙ ap (λ b. fed form F (record { sum = F (xored form v b); held = zero_block form; count = 0 }) (drop n X)) front
-      ∙ blocks q (F (xored form v (block_of form X))) (drop n X)
-      (λ l. omega (arith, times, rest, long (omega arith)))
-      (omega (arith, times, rest))
-      ∙ ap₂ (λ h k. record { sum = cbc form F q (F (xored form v (block_of form X))) (drop n X); held = h; count = k })
-      (ap (block_of form) left)
-      count
+      let parts = take-append-drop n X in
+      let both = joined start (take n X) (drop n X) in
+      let one = fitting (take n X) v (zero_block form) 0 (omega arith) in
+      let next = passing (drop n X) v (block_of form (take n X)) (omega arith) in
+      let others =
+      blocks q (F (xored form v (block_of form X))) (drop n X) (λ l. omega (arith, long (omega arith))) (omega arith) in
+      let left = drop-drop (q * n) n X in
+      grind arith
 
   -- CBC of all blocks but the last, and then the last
   cbc_last : (q : ℕ) (v b : B) (X : List ℕ)
       → q * form.size ≤ length X
       → cbc form F (suc q) v (take (q * form.size) X ++ bytes_of form b) ≡ F (xored form (cbc form F q v X) b)
   unfolding cbc
-  cbc_last zero v b X h =
-      let none : 0 * form.size ≡ 0 = zero-mul form.size in
-      ap (λ k. F (xored form v (block_of form (take k X ++ bytes_of form b)))) none
-      ∙ ap (λ a. F (xored form v a)) ((by_bytes form lawful).back b)
+  cbc_last zero v b X h = grind (arith, common_steps, zero-mul form.size, (by_bytes form lawful).back b)
   cbc_last (suc q) v b X h =
       let n = form.size in
       let times : suc q * n ≡ n + q * n = suc-mul q n ∙ omega arith in
       let Y = take (suc q * n) X ++ bytes_of form b in
-      let long : length (take (suc q * n) X) ≡ suc q * n = length-take-le _ X h in
+      let long = length-take-le (suc q * n) X h in
       let front : block_of form Y ≡ block_of form X =
-      same_front form lawful Y X
-      (λ i l. get_or_append_left (take (suc q * n) X) _ 0 i (omega (arith, long, times))
-      ∙ get_or-take (suc q * n) X i 0 (omega (arith, times))) in
+      same_front form lawful Y X (λ i l. grind (arith, common_steps)) in
       let back : drop n Y ≡ take (q * n) (drop n X) ++ bytes_of form b =
-      drop-append-le n (take (suc q * n) X) (bytes_of form b) (omega (arith, long, times))
+      drop-append-le n (take (suc q * n) X) (bytes_of form b) (omega arith)
       ∙ ap (λ Z. Z ++ bytes_of form b) (ap (λ k. drop n (take k X)) times ∙ drop-take n (q * n) X) in
-      ap₂ (λ a Z. cbc form F (suc q) (F (xored form v a)) Z) front back
-      ∙ cbc_last q (F (xored form v (block_of form X))) b (drop n X) (omega (arith, times, length-drop n X))
+      cc (cbc_last q (F (xored form v (block_of form X))) b (drop n X) (omega (arith, length-drop n X)))
 
   -- CMAC where the padded string is q blocks and a last one
   cmac_last : (q : ℕ) (b : B) (X : List ℕ)
@@ -136,13 +100,9 @@ module _ {B : Type 0} (form : Form B) (lawful : Lawful form) (F : B → B) where
   unfolding cmac
   cmac_last q b X h padded =
       let n = form.size in
-      let long : length (take (q * n) X ++ bytes_of form b) ≡ suc q * n =
-      length-append (take (q * n) X) _
-      ∙ omega (arith, length-take-le (q * n) X h, length-bytes form lawful b, suc-mul q n) in
-      ap (λ Y. cbc form F (length Y / n) (zero_block form) Y) padded
-      ∙ ap (λ k. cbc form F k (zero_block form) (take (q * n) X ++ bytes_of form b))
-      (ap (λ k. k / n) long ∙ mul-div_cancel (suc q) (some form lawful F))
-      ∙ cbc_last q (zero_block form) b X h
+      let long : length (pad form F X) / n ≡ suc q =
+      ap (λ k. k / n) (grind (arith, common_steps, length-bytes form lawful b, suc-mul q n)) ∙ mul-div_cancel (suc q) (some form lawful F) in
+      rw (long, padded) (cbc_last q (zero_block form) b X h)
 
   full : (X : List ℕ) → is_full form X ≡ true → finished form F (fed form F (blank form) X) ≡ cmac form F X
   unfolding finished pad is_full into_last
@@ -150,15 +110,12 @@ module _ {B : Type 0} (form : Form B) (lawful : Lawful form) (F : B → B) where
       let n = form.size in
       let q = length X / n - 1 in
       let parts = and_parts _ _ f in
-      let some_bytes : 0 < length X = ltb-true 0 (length X) parts.0 in
-      let even : length X % n ≡ 0 = eqb-true (length X % n) 0 parts.1 in
-      let times : length X ≡ q * n + n = whole_blocks _ _ n (length X) some_bytes even (div-add-mod' (length X) n) in
-      let front : length X - n ≡ q * n = omega (arith, times) in
+      let times : length X ≡ q * n + n =
+      whole_blocks _ _ n (length X) (ltb-true 0 (length X) parts.0) (eqb-true (length X % n) 0 parts.1) (div-add-mod' (length X) n) in
       let last : B = xored form (block_of form (drop (q * n) X)) (two_l form F) in
-      ap (finished form F) (blocks q (zero_block form) X (λ l. omega (arith, times, some form lawful F)) (omega (arith, times)))
-      ∙ cond-false _ _ _ (le-ltb (length X - q * n) n (omega (arith, times)))
-      ∙ sym (cmac_last q last X (omega (arith, times))
-      (cond-true _ _ _ f ∙ ap (λ k. take k X ++ bytes_of form (xored form (block_of form (drop k X)) (two_l form F))) front))
+      let held = blocks q (zero_block form) X (λ l. omega (arith, some form lawful F)) (omega arith) in
+      let sum = cmac_last q last X (omega arith) in
+      grind (arith, nat_tests)
 
   short : (X : List ℕ) → is_full form X ≡ false → finished form F (fed form F (blank form) X) ≡ cmac form F X
   unfolding finished pad is_full into_last filled_up
@@ -169,43 +126,34 @@ module _ {B : Type 0} (form : Form B) (lawful : Lawful form) (F : B → B) where
       let rest = mod-lt (length X) (some form lawful F) in
       let zeros = n - 1 - length X % n in
       let Y = filled_up form X in
-      let long : length Y ≡ q * n + n =
-      length-append X _ ∙ omega (arith, whole, rest, length-replicate {A = ℕ} zeros 0) in
-      let front : length Y - n ≡ q * n = omega (arith, long) in
       let X' = drop (q * n) X in
-      let count : length X' ≡ length X - q * n = length-drop (q * n) X in
+      let long : length Y ≡ q * n + n =
+      length-append X _ ∙ omega (arith, length-replicate {A = ℕ} zeros 0) in
       let left : block_of form (drop (q * n) Y) ≡ with_byte_at form (block_of form X') (length X - q * n) 0x80 =
-      ap (block_of form) (drop-append-le (q * n) X _ (omega (arith, whole)))
+      ap (block_of form) (drop-append-le (q * n) X _ (omega arith))
       ∙ block-filled_up form lawful X' 0x80 zeros
-      ∙ ap (λ k. with_byte_at form (block_of form X') k 0x80) count in
+      ∙ ap (λ k. with_byte_at form (block_of form X') k 0x80) (length-drop (q * n) X) in
+      let front = take-append-le (q * n) X (0x80 ∷ replicate zeros 0) (omega arith) in
       let last : B = xored form (with_byte_at form (block_of form X') (length X - q * n) 0x80) (four_l form F) in
-      let more : 0 < q → q * n < length X = short_last q _ n (length X) (some form lawful F) f whole in
-      ap (finished form F) (blocks q (zero_block form) X more (omega (arith, whole, rest)))
-      ∙ cond-true _ _ _ (lt-ltb (length X - q * n) n (omega (arith, whole, rest)))
-      ∙ sym (cmac_last q last X (omega (arith, whole))
-      (cond-false _ _ _ f
-      ∙ ap (λ k. take k Y ++ bytes_of form (xored form (block_of form (drop k Y)) (four_l form F))) front
-      ∙ ap₂ (λ Z b. Z ++ bytes_of form (xored form b (four_l form F)))
-      (take-append-le (q * n) X _ (omega (arith, whole)))
-      left))
+      let held = blocks q (zero_block form) X (short_last q _ n (length X) (some form lawful F) f whole) (omega arith) in
+      let sum = cmac_last q last X (omega arith) in
+      grind (arith, nat_tests)
 
   plain : (X : List ℕ) → finished form F (fed form F (blank form) X) ≡ cmac form F X
   plain X = ⊎_elim (full X) (short X) (cases_Bool (is_full form X))
 
   block : (b : B) → fed form F (blank form) (bytes_of form b) ≡ holding form b
   block b =
-      let n = form.size in
-      fitting (bytes_of form b) (zero_block form) (zero_block form) 0 (omega (arith, length-bytes form lawful b))
-      ∙ ap₂ (λ h k. record { sum = zero_block form; held = h; count = k })
-      ((by_bytes form lawful).back b)
-      (omega (arith, length-bytes form lawful b))
+      grind
+      (arith, common_steps, fitting (bytes_of form b) (zero_block form) (zero_block form) 0, length-bytes form lawful b, (by_bytes form lawful).back b)
 
   tweaked : (t : ℕ) (X : List ℕ) → finished form F (fed form F (holding form (end_block form t)) X) ≡ omac form F t X
   unfolding omac
   tweaked t X =
-      ap (λ c. finished form F (fed form F c X)) (sym (block (end_block form t)))
-      ∙ ap (finished form F) (joined (blank form) (bytes_of form (end_block form t)) X)
-      ∙ plain (bytes_of form (end_block form t) ++ X)
+      let same = block (end_block form t) in
+      let two = joined (blank form) (bytes_of form (end_block form t)) X in
+      let whole = plain (bytes_of form (end_block form t) ++ X) in
+      cc
 
   pub chains : Chains form F
   chains = record { joined = joined; block = block; plain = plain; tweaked = tweaked }

@@ -1,11 +1,8 @@
 -- The key that is given back is the one that was taken in.
 use Rattle.seal.specs.Runs.{at_header}
-use Rattle.seal.proofs.Held.{header_held, given_back}
+use Rattle.seal.proofs.Held.{given_back}
 use Rattle.seal.proofs.header.HeaderStage.abandon.Goals as goal
 
 pub returns-clause-run : goal.returns-clause-run
-returns-clause-run g c =
-    let form = g.C.Block.Block.form in
-    let lawful = g.met.C.Block.Block.lawful in
-    λ origin so_far run.
-    given_back form lawful g.C.Cipher.f origin (header_held form lawful g.C.Cipher.f origin run).on (at_header run)
+returns-clause-run g c origin so_far run =
+    given_back g.C.Block.Block.form g.met.C.Block.Block.lawful g.C.Cipher.f origin (at_header run)
