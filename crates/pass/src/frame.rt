@@ -30,9 +30,8 @@ impl<'a> Content<'a> {
         requires limits { within_limits trailer ≡ true }
         ensures { parts_of result ≡ parts_at trailer parts.now }
     {
-        let suite = match trailer.kind {
-            Kind::Idle => return Content::Idle { fill: parts },
-            Kind::Sealed(suite) => suite,
+        let Kind::Sealed(suite) = trailer.kind else {
+            return Content::Idle { fill: parts };
         };
         let (nonce, parts) = parts.split_at(usize::from(trailer.nonce));
         let (header, parts) = parts.split_at(usize::from(trailer.header));
@@ -110,10 +109,8 @@ impl<'a> Last<'a> {
             return Err(Cause::BadLength);
         }
         let span = trailer.span();
-        if span > before.len() {
-            return Err(Cause::Overrun);
-        }
-        let (rest, parts) = before.split_at(before.len() - span);
+        let rest_len = before.len().checked_sub(span).ok_or(Cause::Overrun)?;
+        let (rest, parts) = before.split_at(rest_len);
         Ok(Last {
             rest,
             content: Content::cut(trailer, parts),
