@@ -9,7 +9,7 @@ use wire::fault::Cause;
 use wire::kind::{Kind, Suite};
 
 // What a frame carries, each a part of the pass file.
-#[derive(Clone, Copy, Debug)]
+#[derive(Clone, Copy, PartialEq, Eq, Debug)]
 pub enum Content<'a> {
     Idle {
         fill: &'a [u8],
@@ -47,7 +47,7 @@ impl<'a> Content<'a> {
 }
 
 // What the walk hands out. Only the walk makes one.
-#[derive(Clone, Copy, Debug)]
+#[derive(Clone, Copy, PartialEq, Eq, Debug)]
 pub struct Frame<'a> {
     pub(crate) content: Content<'a>,
     pub(crate) number: usize,
