@@ -2,9 +2,10 @@
 ghost use Rattle.std.specs.Prelude.{◌≡◌, true, length};
 ghost use Rattle.pass.specs.Layout.{span, within_limits};
 ghost use Rattle.pass.specs.Reading.{trailer_of, parts_at, cut_of, checked};
-ghost use Rattle.pass.specs.View.{parts_of, handed_of, cut_in};
+ghost use Rattle.pass.specs.View.{parts_of};
 
 use crate::trailer::{TRAILER_LEN, Trailer};
+use std::marker::Model;
 use wire::fault::Cause;
 use wire::kind::{Kind, Suite};
 
@@ -94,16 +95,26 @@ impl<'a> Frame<'a> {
 }
 
 // The frame that ends some bytes, and the bytes before it.
-#[derive(Clone, Copy)]
+#[derive(Drop)]
 pub(crate) struct Last<'a> {
     pub(crate) rest: &'a [u8],
     pub(crate) content: Content<'a>,
 }
 
+impl<'a> Model for Last<'a> {
+    ghost use Rattle.pass.specs.Reading.{Cut};
+
+    ghost Value = { Cut };
+
+    ghost use Rattle.pass.specs.View.{parts_of};
+
+    ghost view = { λ l. record { rest = l.rest.now; parts = parts_of l.content } };
+}
+
 impl<'a> Last<'a> {
     // Cuts the parts that a trailer tells of off the bytes before it.
     fn cut(trailer: Trailer, before: &'a [u8]) -> Result<Last<'a>, Cause>
-        ensures { cut_in result ≡ cut_of trailer before.now }
+        ensures { result ≡ cut_of trailer before.now }
     {
         if !trailer.is_within_limits() {
             return Err(Cause::BadLength);
@@ -120,7 +131,7 @@ impl<'a> Last<'a> {
 
 // The frame that ends `bytes`, by the checks in their order.
 pub(crate) fn last_frame(bytes: &[u8]) -> Result<Last<'_>, Cause>
-    ensures { cut_in result ≡ checked bytes.now (trailer_of bytes.now) }
+    ensures { result ≡ checked bytes.now (trailer_of bytes.now) }
 {
     let trailer = Trailer::read(bytes)?;
     let (before, _) = bytes.split_at(bytes.len() - TRAILER_LEN);
