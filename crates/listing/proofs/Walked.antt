@@ -1,5 +1,5 @@
 -- The lines written so far and those of the frames that are left are together the lines of the whole file.
-use Rattle.std.proofs.Common.{◌≡◌, ℕ, zero, suc, ◌+◌, ◌<◌, List, [], ◌∷◌, ◌++◌, length, sym, refl, ap, ◌∙◌, append_assoc, append-nil, arith}
+use Rattle.std.proofs.Common.{◌≡◌, ℕ, zero, suc, ◌+◌, ◌<◌, List, [], ◌∷◌, ◌++◌, length, sym, refl, ap, ◌∙◌, append_assoc, arith}
 use Rattle.std.proofs.lemmas.List.{flat_map_more}
 use Rattle.std.specs.List.{flat_map}
 use Rattle.pass.specs.Runs.{Walks, called}
@@ -15,17 +15,6 @@ pub record Sofar (before file text : List ℕ) (w : Point) : Type 0 where
   pub frames : List Handed
   pub run : Walks file frames w
   pub written : text ≡ before ++ flat_map frame_line frames
-
-pub begun : (before file : List ℕ) (w : Point) → w ≡ start file → Walks file [] w → Sofar before file before w
-begun before file w e run =
-    record {
-      turns = length file + 1;
-      enough = omega (arith, ap (λ v. length v.rest) e);
-      whole = ap (λ v. before ++ lines (length file + 1) v) e;
-      frames = [];
-      run = run;
-      written = sym (append-nil before);
-    }
 
 -- what is left to write, by the walk's answer: some turn is left
 next_lines : (turns : ℕ) (w : Point) (r : Told)

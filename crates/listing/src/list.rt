@@ -32,6 +32,12 @@ fn list_frames(text: &mut String, file: &[u8]) -> Result<Result<usize, Stopped>,
     }
 }
 
+fn is_too_long(input: &[u8]) -> bool
+    ensures { result ≡ nat_lt input_max (length input.now) }
+{
+    input.len() > INPUT_MAX
+}
+
 // A file that is too long is not walked: its listing is the fault alone.
 pub fn listing(heap: Global, input: &[u8]) -> Result<String, AllocError>
     ensures value { IfOk result (λ s. string_bytes s ≡ listed input.now) }
@@ -39,7 +45,7 @@ pub fn listing(heap: Global, input: &[u8]) -> Result<String, AllocError>
     ensures whole { IfOk result (λ s. (ps : List Parts) → EndToEnd input.now ps → length input.now ≤ input_max → string_bytes s ≡ frame_lines ps) }
 {
     let mut text = String::new(heap);
-    let ending = if input.len() > INPUT_MAX {
+    let ending = if is_too_long(input) {
         Err(Stopped {
             fault: ListFault::InputTooLong,
             left: INPUT_MAX,

@@ -16,10 +16,7 @@ fn spent(
     times: usize,
     last: &str,
 ) -> Result<u128, Fail> {
-    let mut file = Vec::new(heap);
-    for _ in 0..frames {
-        file.extend_from_slice(&TRAILER)?;
-    }
+    let file = TRAILER.repeat(heap, frames)?;
     let start = Instant::now(rt)?;
     for _ in 0..times {
         let text = listing(heap, file.as_slice())?;

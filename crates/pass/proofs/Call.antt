@@ -1,7 +1,6 @@
 -- Where a frame ends the rest, or a check refuses what does, the walk takes the step that it tells.
 use Rattle.std.proofs.Common.{◌≡◌, ◌+◌, ◌-◌, ◌<◌, length, Err, refl, ap, arith}
 use Rattle.std.proofs.lemmas.List.{length-append}
-use Rattle.std.proofs.lemmas.Result.{MatchResult-at_err}
 use Rattle.wire.specs.Faults.{cause_number}
 use Rattle.wire.specs.declared.fault.FrameFault.{FrameFault}
 use Rattle.pass.specs.Layout.{encoded, Behind, Refusal}
@@ -20,7 +19,7 @@ refuses w e left found why =
       left = left;
       why = why;
       apart = λ rest p. no_frame w.rest rest p e found;
-      place = MatchResult-at_err (λ _. Unit {0}) (λ d. d.place ≡ length w.rest - 8) e found (refused_at w.rest);
+      place = rw found at (refused_at w.rest);
       frame = refl;
       same = refl;
     }

@@ -1,15 +1,13 @@
 -- The parts that a trailer points back over, joined again, are the bytes that they were cut from, and have the lengths
 -- that the trailer tells.
-use Rattle.std.proofs.Common.{◌≡◌, ℕ, ◌-◌, ◌<◌, ◌≤◌, Bool, true, false, cond, ◌&&◌, eqb, leb, List, [], ◌++◌, length, get_or, take, drop, IfErr, Ok, Err, Result, sym, refl, ap, ◌∙◌, append_assoc, arith, MatchResult}
-use Rattle.std.proofs.lemmas.List.{length-take, length-drop, take-append-drop, take_all, drop_all}
-use Rattle.std.proofs.lemmas.Bool.{and_parts, eqb-true, cond-true, le-leb, leb-true, leb-false}
+use Rattle.std.proofs.Common.{◌≡◌, ℕ, ◌-◌, ◌<◌, ◌≤◌, Bool, true, false, cond, leb, List, ◌++◌, length, get_or, take, drop, IfErr, Ok, Err, Result, sym, refl, ap, ◌∙◌, append_assoc, arith, MatchResult}
+use Rattle.std.proofs.lemmas.List.{length-take, length-drop, take-append-drop}
+use Rattle.std.proofs.lemmas.Bool.{cond-true, le-leb, leb-true, leb-false}
 use Rattle.wire.specs.declared.fault.Cause.{Cause}
 use Rattle.wire.specs.declared.fault.Cause.TheVariants.{BadLength, Overrun}
 use Rattle.wire.specs.Faults.{cause_number}
-use Rattle.wire.specs.Limits.{header_max, message_max}
-use Rattle.wire.specs.declared.kind.Kind.TheVariants.{Idle}
 use Rattle.pass.specs.declared.trailer.Trailer.{Trailer}
-use Rattle.pass.specs.Layout.{Parts, lengths, trailer_bytes, span, takes, within_limits, encoded, Behind, Refusal, bad_length, overrun}
+use Rattle.pass.specs.Layout.{lengths, trailer_bytes, span, within_limits, encoded, Behind, Refusal, bad_length, overrun}
 use Rattle.pass.specs.Reading.{trailer_of, Cut, parts_at, cut_at, checked, locate, last_of}
 use Rattle.pass.proofs.Trailers.{Ends, trailer_read}
 
@@ -121,25 +119,3 @@ refused_at bs = at (length bs) (checked bs (trailer_of bs))
     at : (n : ℕ) (found : Result Cut Cause) → IfErr (locate n found) (λ e. e.place ≡ n - 8)
     at n (Ok c) = tt
     at n (Err c) = refl
-
-zeros : (x y z : ℕ) → (eqb x 0 && (eqb y 0 && eqb z 0)) ≡ true → (x ≡ 0) × (y ≡ 0) × (z ≡ 0)
-zeros x y z h =
-    let p = and_parts (eqb x 0) (eqb y 0 && eqb z 0) h in
-    let q = and_parts (eqb y 0) (eqb z 0) p.1 in (eqb-true x 0 p.0, eqb-true y 0 q.0, eqb-true z 0 q.1)
-
--- an idle frame is all fill
-pub idle_parts : (t : Trailer) (ps : List ℕ)
-    → t.kind ≡ Idle
-    → within_limits t ≡ true
-    → length ps ≡ span t
-    → ◌≡◌ {A = Parts} (record { kind = Idle; nonce = []; header = []; body = ps; tag = [] }) (parts_at t ps)
-idle_parts t ps k w h =
-    let limits = (and_parts (leb t.header header_max) _ w).1 in
-    let empty : takes Idle t ≡ true = ap (λ j. takes j t) (sym k) ∙ (and_parts (leb t.body message_max) _ limits).1 in
-    let none = zeros t.nonce t.tag t.header empty in
-    let n : t.nonce ≡ 0 = none.0 in
-    let e : t.header ≡ 0 = none.2 in
-    let long : length ps ≤ t.body = omega (arith, none.1) in
-    let all = take_all t.body ps long in
-    let past = drop_all t.body ps long in
-    cc

@@ -97,7 +97,7 @@ one_frame bs rest rest' p q h k =
 pub no_frame : (bs rest : List ℕ) (p : Parts) (e : FrameFault) → last_of bs ≡ Err e → Behind bs rest p → ⊥
 no_frame bs rest p e refused h =
     let read : last_of bs ≡ Ok (cut rest p) = ap last_of h.joined ∙ read_back rest p h.lawful in
-    let z : ◌≡◌ {A = ℕ} 0 1 = cc in omega arith
+    cc
 
 -- a frame has at least a trailer's bytes
 pub shorter : (bs rest : List ℕ) (p : Parts) → Behind bs rest p → length rest + 8 ≤ length bs

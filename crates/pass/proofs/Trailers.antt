@@ -34,7 +34,7 @@ last_bytes bs (suc k) h =
 
 -- no kind has a number that is not in the list
 no_kind : (b : ℕ) → kind_of b ≡ None → (k : Kind) → kind_number k ≡ b → ⊥
-no_kind b none k e = let some = listed k in let same = ap kind_of e in let z : ◌≡◌ {A = ℕ} 0 1 = cc in omega arith
+no_kind b none k e = let some = listed k in let same = ap kind_of e in cc
 
 module _ (bs : List ℕ) (small : (i : ℕ) → get_or bs i 0 < 256) where
   abbrev fields : Kind → Trailer

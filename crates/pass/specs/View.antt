@@ -5,10 +5,8 @@ use Rattle.wire.specs.declared.fault.PassFault.{PassFault}
 use Rattle.wire.specs.declared.kind.Kind.TheVariants as kind
 use Rattle.pass.specs.declared.frame.Content.{Content}
 use Rattle.pass.specs.declared.frame.Content.TheVariants.{Idle, Sealed}
-use Rattle.pass.specs.declared.frame.Last.{Last}
 use Rattle.pass.specs.declared.frame.Frame.{Frame}
 use Rattle.pass.specs.Layout.{Parts}
-use Rattle.pass.specs.Reading.{Cut}
 use Rattle.pass.specs.Walking.{Handed, Told, none, handed, refused}
 
 -- what a frame carries: its kind and its parts as bytes
@@ -22,11 +20,6 @@ parts_of (Sealed suite nonce header body tag) =
       body = body.now;
       tag = tag.now;
     }
-
--- a frame and the bytes before it, inside a result
-abbrev pub cut_in : {E : Type 0} → Result Last E → Result Cut E
-cut_in (Err e) = Err e
-cut_in (Ok l) = Ok (record { rest = l.rest.now; parts = parts_of l.content })
 
 -- a frame as it is handed out
 abbrev pub handed_of : Frame → Handed

@@ -2,14 +2,15 @@
 ghost use Rattle.std.specs.Prelude.{◌≡◌, true, length};
 ghost use Rattle.pass.specs.Layout.{span, within_limits};
 ghost use Rattle.pass.specs.Reading.{trailer_of, parts_at, cut_of, checked};
-ghost use Rattle.pass.specs.View.{parts_of, handed_of, cut_in};
+ghost use Rattle.pass.specs.View.{parts_of};
 
 use crate::trailer::{TRAILER_LEN, Trailer};
+use std::marker::Model;
 use wire::fault::Cause;
 use wire::kind::{Kind, Suite};
 
 // What a frame carries, each a part of the pass file.
-#[derive(Clone, Copy, Debug)]
+#[derive(Clone, Copy, PartialEq, Eq, Debug)]
 pub enum Content<'a> {
     Idle {
         fill: &'a [u8],
@@ -30,9 +31,8 @@ impl<'a> Content<'a> {
         requires limits { within_limits trailer ≡ true }
         ensures { parts_of result ≡ parts_at trailer parts.now }
     {
-        let suite = match trailer.kind {
-            Kind::Idle => return Content::Idle { fill: parts },
-            Kind::Sealed(suite) => suite,
+        let Kind::Sealed(suite) = trailer.kind else {
+            return Content::Idle { fill: parts };
         };
         let (nonce, parts) = parts.split_at(usize::from(trailer.nonce));
         let (header, parts) = parts.split_at(usize::from(trailer.header));
@@ -48,7 +48,7 @@ impl<'a> Content<'a> {
 }
 
 // What the walk hands out. Only the walk makes one.
-#[derive(Clone, Copy, Debug)]
+#[derive(Clone, Copy, PartialEq, Eq, Debug)]
 pub struct Frame<'a> {
     pub(crate) content: Content<'a>,
     pub(crate) number: usize,
@@ -95,25 +95,33 @@ impl<'a> Frame<'a> {
 }
 
 // The frame that ends some bytes, and the bytes before it.
-#[derive(Clone, Copy)]
+#[derive(Drop)]
 pub(crate) struct Last<'a> {
     pub(crate) rest: &'a [u8],
     pub(crate) content: Content<'a>,
 }
 
+impl<'a> Model for Last<'a> {
+    ghost use Rattle.pass.specs.Reading.{Cut};
+
+    ghost Value = { Cut };
+
+    ghost use Rattle.pass.specs.View.{parts_of};
+
+    ghost view = { λ l. record { rest = l.rest.now; parts = parts_of l.content } };
+}
+
 impl<'a> Last<'a> {
     // Cuts the parts that a trailer tells of off the bytes before it.
     fn cut(trailer: Trailer, before: &'a [u8]) -> Result<Last<'a>, Cause>
-        ensures { cut_in result ≡ cut_of trailer before.now }
+        ensures { result ≡ cut_of trailer before.now }
     {
         if !trailer.is_within_limits() {
             return Err(Cause::BadLength);
         }
         let span = trailer.span();
-        if span > before.len() {
-            return Err(Cause::Overrun);
-        }
-        let (rest, parts) = before.split_at(before.len() - span);
+        let rest_len = before.len().checked_sub(span).ok_or(Cause::Overrun)?;
+        let (rest, parts) = before.split_at(rest_len);
         Ok(Last {
             rest,
             content: Content::cut(trailer, parts),
@@ -123,7 +131,7 @@ impl<'a> Last<'a> {
 
 // The frame that ends `bytes`, by the checks in their order.
 pub(crate) fn last_frame(bytes: &[u8]) -> Result<Last<'_>, Cause>
-    ensures { cut_in result ≡ checked bytes.now (trailer_of bytes.now) }
+    ensures { result ≡ checked bytes.now (trailer_of bytes.now) }
 {
     let trailer = Trailer::read(bytes)?;
     let (before, _) = bytes.split_at(bytes.len() - TRAILER_LEN);

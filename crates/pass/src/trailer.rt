@@ -57,13 +57,11 @@ impl Trailer {
     pub(crate) fn is_within_limits(self) -> bool
         ensures { result ≡ within_limits self }
     {
-        if usize::from(self.header) > HEADER_MAX || usize::from(self.body) > MESSAGE_MAX {
-            return false;
-        }
-        match self.kind {
+        let takes = match self.kind {
             Kind::Idle => self.nonce == 0 && self.tag == 0 && self.header == 0,
             Kind::Sealed(suite) => is_tag_len(suite.block_len(), usize::from(self.tag)),
-        }
+        };
+        usize::from(self.header) <= HEADER_MAX && usize::from(self.body) <= MESSAGE_MAX && takes
     }
 
     // The length of all parts together.

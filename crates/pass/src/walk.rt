@@ -4,7 +4,7 @@ ghost use Rattle.wire.specs.Faults.{cause_number};
 ghost use Rattle.pass.specs.Layout.{Behind, Refusal};
 ghost use Rattle.pass.specs.Reading.{last_of};
 ghost use Rattle.pass.specs.Walking.{Handed as TheHanded, start, handed, answer, next, Steps};
-ghost use Rattle.pass.specs.View.{parts_of, cut_in, told};
+ghost use Rattle.pass.specs.View.{told};
 ghost use Rattle.pass.specs.Runs.{collected, Walks, Reaches, Whole};
 
 use crate::frame::{Frame, Last, last_frame};
@@ -94,9 +94,9 @@ fn trailer_place(bytes: &[u8]) -> usize
 
 // The frame that ends `bytes`, or what is wrong with it and where its trailer is.
 fn located(bytes: &[u8]) -> Result<Last<'_>, FrameFault>
-    ensures value { cut_in result ≡ last_of bytes.now }
-    ensures cases { MatchResult result (λ l. Behind bytes.now l.rest.now (parts_of l.content)) (λ e. Refusal bytes.now (cause_number e.cause)) }
-    ensures shorter { IfOk result (λ l. length l.rest.now + 8 ≤ length bytes.now) }
+    ensures value { result ≡ last_of bytes.now }
+    ensures cases { MatchResult result (λ l. Behind bytes.now l.rest l.parts) (λ e. Refusal bytes.now (cause_number e.cause)) }
+    ensures shorter { IfOk result (λ l. length l.rest + 8 ≤ length bytes.now) }
 {
     Ok(at(last_frame(bytes), trailer_place(bytes))?)
 }

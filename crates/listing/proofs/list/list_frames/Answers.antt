@@ -1,10 +1,7 @@
 -- A turn writes the line of the frame that was handed out.
 use Rattle.pass.specs.View.{handed_of}
-use Rattle.listing.proofs.Walked.{begun, one_more}
+use Rattle.listing.proofs.Walked.{one_more}
 use Rattle.listing.proofs.list.list_frames.Goals as goal
-
-pub walking-init : goal.walking-init
-walking-init c = begun _ _ c.new-walk.result c.new-walk.ensures.value c.new-walk.ensures.run
 
 pub walking-preserved : goal.walking-preserved
 walking-preserved c =

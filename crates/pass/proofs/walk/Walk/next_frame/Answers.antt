@@ -4,7 +4,7 @@ use Rattle.std.proofs.lemmas.List.{nil_from_length}
 use Rattle.std.proofs.lemmas.Bool.{eqb-true, eqb-false}
 use Rattle.std.proofs.lemmas.Result.{err_from_is_err_and}
 use Rattle.wire.proofs.Carried.{placed_ok, placed_err}
-use Rattle.pass.specs.View.{told, parts_of}
+use Rattle.pass.specs.View.{told}
 use Rattle.pass.specs.Walking.{none, handed}
 use Rattle.pass.specs.Runs.{called}
 use Rattle.pass.proofs.Call.{refuses, hands}
@@ -32,9 +32,8 @@ returns-in_err-rest-clause-rule c file fs run =
 
 pub returns-clause-step : goal.returns-clause-step
 returns-clause-step c =
-    let l = c.in_ok-rest.field-0 in
-    let ok = placed_ok c.located.result _ l (sym c.in_ok-rest.ensures) in
-    rw (← c.self.view_is) (hands _ (record { rest = l.rest.now; parts = parts_of l.content }) (rw ok at c.located.ensures.cases))
+    let ok = placed_ok c.located.result _ c.in_ok-rest.field-0 (sym c.in_ok-rest.ensures) in
+    rw (← c.self.view_is) (hands _ _ (rw (ok, ← c.branch.view_is) at c.located.ensures.cases))
 
 pub returns-clause-run : goal.returns-clause-run
 returns-clause-run c file fs run = called run (handed _) (returns-clause-step c)
