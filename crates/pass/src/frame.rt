@@ -50,13 +50,24 @@ impl<'a> Content<'a> {
 // What the walk hands out. Only the walk makes one.
 #[derive(Clone, Copy, PartialEq, Eq, Debug)]
 pub struct Frame<'a> {
-    pub(crate) content: Content<'a>,
-    pub(crate) number: usize,
-    pub(crate) place: usize,
-    pub(crate) len: usize,
+    content: Content<'a>,
+    number: usize,
+    place: usize,
+    len: usize,
 }
 
 impl<'a> Frame<'a> {
+    pub(crate) fn new(content: Content<'a>, number: usize, place: usize, len: usize) -> Frame<'a>
+        ensures { result ≡ record { content = content.entry; number = number; place = place; len = len } }
+    {
+        Frame {
+            content,
+            number,
+            place,
+            len,
+        }
+    }
+
     pub fn content(&self) -> Content<'a>
         ensures { result ≡ self.now.content }
     {

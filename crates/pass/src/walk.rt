@@ -71,12 +71,8 @@ impl<'a> Walk<'a> {
             return Ok(None);
         }
         let Last { rest, content } = at(located(self.rest), self.number)?;
-        let frame = Frame {
-            content,
-            number: self.number,
-            place: rest.len(),
-            len: self.rest.len() - rest.len(),
-        };
+        let place = rest.len();
+        let frame = Frame::new(content, self.number, place, self.rest.len() - place);
         *self = Walk {
             rest,
             number: self.number + 1,

@@ -33,7 +33,7 @@ returns-in_err-rest-clause-rule c file fs run =
 pub returns-clause-step : goal.returns-clause-step
 returns-clause-step c =
     let ok = placed_ok c.located.result _ c.in_ok-rest.field-0 (sym c.in_ok-rest.ensures) in
-    rw (← c.self.view_is) (hands _ _ (rw (ok, ← c.branch.view_is) at c.located.ensures.cases))
+    rw (← c.self.view_is, c.new-frame.ensures) (hands _ _ (rw (ok, ← c.branch.view_is) at c.located.ensures.cases))
 
 pub returns-clause-run : goal.returns-clause-run
 returns-clause-run c file fs run = called run (handed _) (returns-clause-step c)
