@@ -33,10 +33,14 @@ impl<const MAX: usize> Length<MAX> {
         ensures answer { result ≡ grown_to self.old piece MAX }
         ensures after { self.new ≡ unwrap_or result self.old }
     {
-        if piece > MAX - self.count {
-            return None;
-        }
-        self.count += piece;
+        self.count = grown(self.count, piece, MAX)?;
         Some(self.count)
     }
+}
+
+// The length so far with a piece more, if it is within the limit.
+pub fn grown(so_far: usize, piece: usize, limit: usize) -> Option<usize>
+    ensures { result ≡ grown_to so_far piece limit }
+{
+    so_far.checked_add(piece).filter(|length| *length <= limit)
 }
