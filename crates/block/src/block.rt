@@ -70,22 +70,17 @@ pub trait Block: Copy {
     fn byte(self, place: usize) -> u8
         ensures { result ≡ byte_at form self place }
     {
-        let width = Self::width();
-        if place >= width {
-            return 0;
-        }
-        BytePlace::of(width, place).get(self.number())
+        BytePlace::of(Self::width(), place).map_or(0, |at| at.get(self.number()))
     }
 
     // The block with another byte at a place; past its last, nothing is replaced.
     fn put(self, place: usize, byte: u8) -> Self
         ensures { result ≡ with_byte_at form self place byte }
     {
-        let width = Self::width();
-        if place >= width {
-            return self;
-        }
-        Self::from_number(BytePlace::of(width, place).put(self.number(), byte))
+        BytePlace::of(Self::width(), place).map_or(
+            self,
+            |at| Self::from_number(at.put(self.number(), byte)),
+        )
     }
 
     // The block whose bytes are the first n of a string, and 00 where it has no more.

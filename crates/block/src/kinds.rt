@@ -1,5 +1,5 @@
-// The kinds of block: of 8 bytes, and of 16. One text makes both what a kind of block is.
-ghost use Rattle.std.specs.Prelude.{◌≡◌, ℕ, ◌⊎◌, refl, ◌*◌, ◌%◌, ◌^◌};
+// The two kinds of block, of 8 and of 16 bytes: one type, and one implementation for both.
+ghost use Rattle.std.specs.Prelude.{◌≡◌, ◌⊎◌, refl};
 ghost use Rattle.std.proofs.Common.{inl, inr};
 ghost use Rattle.block.specs.Kinds.{form_of};
 ghost use Rattle.block.specs.Same.{same};
@@ -12,26 +12,26 @@ pub type Block8 = BlockOf<8>;
 
 pub type Block16 = BlockOf<16>;
 
-// How many bytes a block may have.
-pub trait Size<const N: usize> {
+// How many bytes a block may have: 8 or 16.
+pub trait BlockSize<const N: usize> {
     ghost allowed: { (N ≡ 8) ⊎ (N ≡ 16) };
 }
 
-impl Size<8> for BlockOf<8> {
+impl BlockSize<8> for BlockOf<8> {
     ghost allowed = { inl refl };
 }
 
-impl Size<16> for BlockOf<16> {
+impl BlockSize<16> for BlockOf<16> {
     ghost allowed = { inr refl };
 }
 
 impl<const N: usize> Block for BlockOf<N>
 where
-    BlockOf<N>: Size<N>,
+    BlockOf<N>: BlockSize<N>,
 {
     ghost form = { form_of N };
 
-    ghost lawful = { lawful_by_number (form_of N) same (λ a. a.fits) (λ x. refl) ⟦<BlockOf<N> as Size<N>>⟧.allowed };
+    ghost lawful = { lawful_by_number (form_of N) same (λ a. a.fits) (λ x. refl) ⟦<BlockOf<N> as BlockSize<N>>⟧.allowed };
 
     fn width() -> usize {
         N
@@ -41,18 +41,11 @@ where
         self.number
     }
 
+    // The bits that a block has no room for are shifted out.
     fn from_number(number: u128) -> BlockOf<N> {
+        let spare = 128 - 8 * N;
         BlockOf {
-            number: lowest_bytes(number, N),
+            number: number << spare >> spare,
         }
     }
-}
-
-// The number modulo 2 to the power 8n: the bits that a block has no room for are shifted out.
-fn lowest_bytes(number: u128, width: usize) -> u128
-    requires { (width ≡ 8) ⊎ (width ≡ 16) }
-    ensures { result ≡ number % 2 ^ (8 * width) }
-{
-    let spare = 128 - 8 * width;
-    number << spare >> spare
 }

@@ -1,5 +1,5 @@
 // The place of a byte in a number.
-ghost use Rattle.std.specs.Prelude.{◌≡◌, ◌*◌, ◌/◌, ◌%◌, ◌^◌, ◌<◌, ◌≤◌};
+ghost use Rattle.std.specs.Prelude.{◌≡◌, ◌*◌, ◌/◌, ◌%◌, ◌^◌, ◌<◌, ◌≤◌, MatchOption};
 ghost use Rattle.block.specs.Blocks.{shift, replaced};
 
 // Where the byte begins, in bits from the lowest: a number has 128 bits, and the byte lies within them.
@@ -10,14 +10,17 @@ pub(crate) struct BytePlace {
 }
 
 impl BytePlace {
-    // The place of a byte that is counted from the first of a block of `width` bytes.
-    pub(crate) fn of(width: usize, place: usize) -> BytePlace
-        requires { (place < width) × (width ≤ 16) }
-        ensures { result.lowest ≡ shift width place }
+    // The place of a byte that is counted from the first of a block of `width` bytes, if the block has one there.
+    pub(crate) fn of(width: usize, place: usize) -> Option<BytePlace>
+        requires { width ≤ 16 }
+        ensures { MatchOption result (width ≤ place) (λ at. (place < width) × (at.lowest ≡ shift width place)) }
     {
-        BytePlace {
-            lowest: 8 * (width - 1 - place),
+        if place >= width {
+            return None;
         }
+        Some(BytePlace {
+            lowest: 8 * (width - 1 - place),
+        })
     }
 
     pub(crate) fn get(self, number: u128) -> u8

@@ -16,6 +16,7 @@ pub trait Cipher {
     // n, the bytes of a block.
     const N: usize;
 
+    // What the constants are in clauses.
     ghost SUITE: { TheSuite };
 
     ghost N: { ℕ };

@@ -9,6 +9,7 @@ use wire::fault::RecordFault;
 pub trait Keyed: Cipher {
     const KEY_LEN: usize;
 
+    // What the constant is in clauses.
     ghost KEY_LEN: { ℕ };
 
     // The cipher under some key bytes.
