@@ -7,7 +7,7 @@ use cipher::bench::Bench;
 use cipher::cipher::Cipher;
 use cipher::load::{Keyed, load};
 use mode::table::table;
-use mode::worked::{OpenRow, SealRow, Worked};
+use mode::worked::{BlockRow, OpenRow, SealRow, Worked};
 use std::alloc::Global;
 use std::process::Abort;
 use std::test::Fail;
@@ -20,6 +20,18 @@ fn check_bytes<B: Block>(
 ) -> Result<(), Fail> {
     assert_eq!(rt; bytes(heap, block)?.as_slice(), answer);
     Ok(())
+}
+
+// What an operation makes of a row's block.
+fn check_block<B: Block, F: Fn(B) -> B>(
+    rt: &impl Abort,
+    heap: Global,
+    row: BlockRow,
+    operation: F,
+) -> Result<(), Fail>
+    requires { F.IsAlwaysCallable operation }
+{
+    check_bytes(rt, heap, operation(B::from_bytes(row.block)), row.answer)
 }
 
 fn check_sealed<C: Cipher>(rt: &impl Abort, eax: &Eax<'_, C>, row: SealRow) -> Result<(), Fail> {
@@ -45,23 +57,9 @@ fn check_row(
 ) -> Result<(), Fail> {
     let heap = eax.heap;
     match row {
-        Worked::Doubled8(row) => {
-            check_bytes(rt, heap, Block8::from_bytes(row.block).double(), row.answer)
-        },
-        Worked::Doubled16(row) => {
-            check_bytes(
-                rt,
-                heap,
-                Block16::from_bytes(row.block).double(),
-                row.answer,
-            )
-        },
-        Worked::Next8(row) => check_bytes(
-            rt,
-            heap,
-            Block8::from_bytes(row.block).next(),
-            row.answer,
-        ),
+        Worked::Doubled8(row) => check_block(rt, heap, row, |block: Block8| block.double()),
+        Worked::Doubled16(row) => check_block(rt, heap, row, |block: Block16| block.double()),
+        Worked::Next8(row) => check_block(rt, heap, row, |block: Block8| block.next()),
         Worked::Cmac(row) => check_bytes(rt, heap, eax.cmac(row.string)?, row.answer),
         Worked::Omac(t, row) => check_bytes(rt, heap, eax.omac(t, row.string)?, row.answer),
         Worked::Sealed(row) => check_sealed(rt, eax, row),
