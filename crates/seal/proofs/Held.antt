@@ -3,7 +3,7 @@
 use Rattle.std.proofs.Common.{◌≡◌, ℕ, ◌≤◌, List, [], length, take, Ok, Err, Result, sym, refl, ap, ◌∙◌, ap₂, subst, arith}
 use Rattle.std.proofs.lemmas.List.{length-append, length-take-le, take_at}
 use Rattle.std.proofs.lemmas.List.Elements.{All-nil, All-cons, All-same}
-use Rattle.std.proofs.lemmas.Bool.{and_parts, leb-true}
+use Rattle.std.proofs.lemmas.Bool.Decides.{nat_tests}
 use Rattle.wire.specs.Limits.{is_tag_len_of}
 use Rattle.wire.specs.declared.fault.RecordFault.{RecordFault}
 use Rattle.block.specs.Form.{Form}
@@ -178,7 +178,7 @@ module _ {C B : Type 0} (form : Form B) (lawful : Lawful form) (F : C → B → 
       → TagHeld (with_tag so_far filled r) t
   unfolding tag_of
   after_tag so_far t out filled (Ok n) p h =
-      let short : length out ≤ form.size = leb-true (length out) form.size (and_parts _ _ p.fits).1 in
+      let short : length out ≤ form.size = grind (arith, nat_tests, p.fits) in
       let long : length filled ≡ length out =
       ap length p.put ∙ length-take-le (length out) _ (omega (arith, length-bytes form lawful t.block)) in
       let tag : IsTag form F origin.cipher so_far filled = (
@@ -220,11 +220,9 @@ module _ {C B : Type 0} (form : Form B) (lawful : Lawful form) (F : C → B → 
       → Joining form F s piece r t
       → HeaderAnswer so_far.header piece r
   header_answer so_far s t piece (Ok n) h p =
-      let count : s.header.count ≡ length so_far.header = ap (λ x. x.count) h.held in
-      (omega (arith, p.header.counted, length-append so_far.header piece), p.header.within)
+      (omega (arith, ap (λ x. x.count) h.held, p.header.counted, length-append so_far.header piece), p.header.within)
   header_answer so_far s t piece (Err e) h p =
-      let count : s.header.count ≡ length so_far.header = ap (λ x. x.count) h.held in
-      (p.header.number, omega (arith, p.header.past, length-append so_far.header piece))
+      (p.header.number, omega (arith, ap (λ x. x.count) h.held, p.header.past, length-append so_far.header piece))
 
   pub message_answer : (so_far : Transcript) (s t : MessageStage C B) (piece out filled : List ℕ) (r : Result ℕ RecordFault)
       → MessageHeld so_far s
