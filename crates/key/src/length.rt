@@ -1,5 +1,5 @@
 // The length of a string that comes in pieces, and never grows past its limit.
-ghost use Rattle.std.specs.Prelude.{◌≡◌, unwrap_or};
+ghost use Rattle.std.specs.Prelude.{◌≡◌, ℕ, ◌≤◌, unwrap_or};
 ghost use Rattle.key.specs.Lengths.{grown_to};
 
 use std::marker::Model;
@@ -11,8 +11,6 @@ pub struct Length<const MAX: usize> {
 
 // Clauses see the count.
 impl<const MAX: usize> Model for Length<MAX> {
-    ghost use Rattle.std.specs.Prelude.{ℕ, ◌≤◌};
-
     ghost Value = { ℕ };
 
     ghost view = { λ length. length.count };
@@ -21,14 +19,14 @@ impl<const MAX: usize> Model for Length<MAX> {
 }
 
 impl<const MAX: usize> Length<MAX> {
-    // That of a string of which no piece has come.
+    // The length of a string of which no piece has come.
     pub fn zero() -> Length<MAX>
         ensures { result ≡ 0 }
     {
         Length { count: 0 }
     }
 
-    // Grows by a piece and answers the length so far, if that is within the limit.
+    // Grows by a piece and answers the length so far, if that is within the limit; else it stays as it is.
     pub fn grow(&mut self, piece: usize) -> Option<usize>
         ensures answer { result ≡ grown_to self.old piece MAX }
         ensures after { self.new ≡ unwrap_or result self.old }

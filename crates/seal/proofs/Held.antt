@@ -3,7 +3,7 @@
 use Rattle.std.proofs.Common.{◌≡◌, ℕ, ◌≤◌, List, [], length, take, Ok, Err, Result, sym, refl, ap, ◌∙◌, ap₂, subst, arith}
 use Rattle.std.proofs.lemmas.List.{length-append, length-take-le, take_at}
 use Rattle.std.proofs.lemmas.List.Elements.{All-nil, All-cons, All-same}
-use Rattle.std.proofs.lemmas.Bool.{and_parts, leb-true}
+use Rattle.std.proofs.lemmas.Bool.Decides.{nat_tests}
 use Rattle.wire.specs.Limits.{is_tag_len_of}
 use Rattle.wire.specs.declared.fault.RecordFault.{RecordFault}
 use Rattle.block.specs.Form.{Form}
@@ -37,7 +37,7 @@ module _ {C B : Type 0} (form : Form B) (lawful : Lawful form) (F : C → B → 
 
   -- a stage's key, after any run: the one that the record took in
   pub record OnKey (own : Key C B) : Type 0 where
-    pub run : Keys form F origin.cipher origin.prepared origin.key
+    pub run : Keys form F origin.cipher origin.last origin.key
     pub same : own ≡ origin.key
 
   of : {own : Key C B} → OnKey own → own.cipher ≡ origin.cipher
@@ -52,7 +52,7 @@ module _ {C B : Type 0} (form : Form B) (lawful : Lawful form) (F : C → B → 
     pub on : OnKey s.key
     pub block : s.nonce ≡ nonce_block form G so_far.nonce
     pub held : s.header ≡ header_of form G so_far.header
-    pub early : so_far ≡ unsealed so_far.nonce so_far.header
+    pub nothing_out : so_far ≡ unsealed so_far.nonce so_far.header
 
   pub header_held : {so_far : Transcript} {s : HeaderStage C B} → AtHeader form F origin so_far s → HeaderHeld so_far s
   header_held (begun keys n b) =
@@ -60,7 +60,7 @@ module _ {C B : Type 0} (form : Form B) (lawful : Lawful form) (F : C → B → 
         on = record { run = keys; same = b.taken };
         block = b.block ∙ ap (λ c. nonce_block form (F c) n) (kept form F _ keys).same;
         held = b.none ∙ none_yet form G;
-        early = refl;
+        nothing_out = refl;
       }
   header_held {s = t} (pieced {so_far = so_far} {s = s} run piece r p) =
       let h = header_held run in
@@ -68,7 +68,7 @@ module _ {C B : Type 0} (form : Form B) (lawful : Lawful form) (F : C → B → 
         on = same_key h.on p.same;
         block = p.block ∙ h.block;
         held = after_join form G lawful so_far.header piece r t.header (rw (of h.on) at (rw h.held at p.header));
-        early = ap (λ x. with_header x piece r) h.early;
+        nothing_out = ap (λ x. with_header x piece r) h.nothing_out;
       }
 
   -- ## the message stage
@@ -139,14 +139,14 @@ module _ {C B : Type 0} (form : Form B) (lawful : Lawful form) (F : C → B → 
   pub message_held : {so_far : Transcript} {s : MessageStage C B} → AtMessage form F origin so_far s → MessageHeld so_far s
   message_held (begun_prepared keys n p) =
       let k = kept form F _ keys in
-      no_message n origin.prepared
+      no_message n origin.last
       (record { run = keys; same = refl })
       (ap (λ c. nonce_block form (F c) n) k.same)
       k.block
       p
   message_held {s = t} (left {so_far = so_far} run p) =
       let h = header_held run in
-      subst (λ x. MessageHeld x t) (sym h.early)
+      subst (λ x. MessageHeld x t) (sym h.nothing_out)
       (no_message so_far.nonce so_far.header
       h.on
       h.block
@@ -178,7 +178,7 @@ module _ {C B : Type 0} (form : Form B) (lawful : Lawful form) (F : C → B → 
       → TagHeld (with_tag so_far filled r) t
   unfolding tag_of
   after_tag so_far t out filled (Ok n) p h =
-      let short : length out ≤ form.size = leb-true (length out) form.size (and_parts _ _ p.fits).1 in
+      let short : length out ≤ form.size = grind (arith, nat_tests, p.fits) in
       let long : length filled ≡ length out =
       ap length p.put ∙ length-take-le (length out) _ (omega (arith, length-bytes form lawful t.block)) in
       let tag : IsTag form F origin.cipher so_far filled = (
@@ -220,11 +220,9 @@ module _ {C B : Type 0} (form : Form B) (lawful : Lawful form) (F : C → B → 
       → Joining form F s piece r t
       → HeaderAnswer so_far.header piece r
   header_answer so_far s t piece (Ok n) h p =
-      let count : s.header.count ≡ length so_far.header = ap (λ x. x.count) h.held in
-      (omega (arith, p.header.counted, length-append so_far.header piece), p.header.within)
+      (omega (arith, ap (λ x. x.count) h.held, p.header.counted, length-append so_far.header piece), p.header.within)
   header_answer so_far s t piece (Err e) h p =
-      let count : s.header.count ≡ length so_far.header = ap (λ x. x.count) h.held in
-      (p.header.number, omega (arith, p.header.past, length-append so_far.header piece))
+      (p.header.number, omega (arith, ap (λ x. x.count) h.held, p.header.past, length-append so_far.header piece))
 
   pub message_answer : (so_far : Transcript) (s t : MessageStage C B) (piece out filled : List ℕ) (r : Result ℕ RecordFault)
       → MessageHeld so_far s

@@ -32,7 +32,7 @@ module _ {C B : Type 0} (form : Form B) (F : C → B → B) where
   module _ (origin : Origin C B) where
     pub data AtHeader : Transcript → HeaderStage C B → Type 0 where
       begun : {s : HeaderStage C B}
-          → Keys form F origin.cipher origin.prepared origin.key
+          → Keys form F origin.cipher origin.last origin.key
           → (nonce : List ℕ)
           → Begins form F origin.key nonce s
           → AtHeader (unsealed nonce []) s
@@ -44,10 +44,10 @@ module _ {C B : Type 0} (form : Form B) (F : C → B → B) where
 
     pub data AtMessage : Transcript → MessageStage C B → Type 0 where
       begun_prepared : {s : MessageStage C B}
-          → Keys form F origin.cipher origin.prepared origin.key
+          → Keys form F origin.cipher origin.last origin.key
           → (nonce : List ℕ)
           → BeginsPrepared form F origin.key nonce s
-          → AtMessage (unsealed nonce origin.prepared) s
+          → AtMessage (unsealed nonce origin.last) s
       left : {so_far : Transcript} {s : HeaderStage C B} {t : MessageStage C B}
           → AtHeader so_far s
           → Leaves form F s t
@@ -81,7 +81,7 @@ module _ {C B : Type 0} (form : Form B) (F : C → B → B) where
     pub record GivenBack (after : Key C B) : Type 0 where
       pub ended : Ended after
       pub same : after ≡ origin.key
-      pub run : Keys form F origin.cipher origin.prepared after
+      pub run : Keys form F origin.cipher origin.last after
 
   module _ (cipher : C) (so_far : Transcript) where
     -- a tag has 4 to n bytes, and is the mode's tag of that length

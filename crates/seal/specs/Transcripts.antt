@@ -4,12 +4,15 @@ use Rattle.wire.specs.declared.fault.RecordFault.{RecordFault}
 use Rattle.key.specs.Headers.{joined}
 use Rattle.key.specs.declared.key.Key.{Key}
 
--- a record was begun on a key, to which any calls had led from a fresh one of this cipher, this header being the last
--- prepared
+-- what a record was begun on: a cipher, the header last prepared, and a key to which any calls have led from a fresh one
+-- of that cipher
 pub record Origin (C B : Type 0) : Type 0 where
   pub cipher : C
-  pub prepared : List ℕ
+  pub last : List ℕ
   pub key : Key C B
+
+abbrev pub begun_on : {C B : Type 0} → C → (last : List ℕ) → Key C B → Origin C B
+begun_on cipher last key = record { cipher = cipher; last = last; key = key }
 
 -- the strings of a record; the newest tag comes first
 pub record Transcript : Type 0 where

@@ -2,7 +2,7 @@
 ghost use Rattle.std.specs.Prelude.{◌≡◌, ℕ, List, []};
 ghost use Rattle.key.specs.Runs.{Keys};
 ghost use Rattle.seal.specs.Steps.{Begins, Joining, Leaves};
-ghost use Rattle.seal.specs.Transcripts.{Origin, Transcript, unsealed, with_header};
+ghost use Rattle.seal.specs.Transcripts.{Origin, begun_on, Transcript, unsealed, with_header};
 ghost use Rattle.seal.specs.Runs.{AtHeader, AtMessage, GivenBack, HeaderAnswer};
 
 use crate::message::MessageStage;
@@ -24,7 +24,7 @@ impl<C: Cipher> HeaderStage<C> {
     // The plain start of a record, which takes the key in.
     pub fn start(key: Key<C>, nonce: &[u8]) -> HeaderStage<C>
         ensures step { Begins C.Block.form C.f key nonce.now result }
-        ensures run { (cipher : C) (prepared : List ℕ) → Keys C.Block.form C.f cipher prepared key → AtHeader C.Block.form C.f (record { cipher = cipher; prepared = prepared; key = key }) (unsealed nonce.now []) result }
+        ensures run { (cipher : C) (last : List ℕ) → Keys C.Block.form C.f cipher last key → AtHeader C.Block.form C.f (begun_on cipher last key) (unsealed nonce.now []) result }
     {
         let nonce = omac(key.cipher(), Tweak::Nonce, nonce);
         HeaderStage {

@@ -1,4 +1,4 @@
-// Sealing a record in pieces, stage by stage, and in one call.
+// Sealing a record in pieces, stage by stage.
 #![tactic(auto)]
 
 pub mod header;

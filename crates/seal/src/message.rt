@@ -2,7 +2,7 @@
 ghost use Rattle.std.specs.Prelude.{◌≡◌, ℕ, List};
 ghost use Rattle.key.specs.Runs.{Keys};
 ghost use Rattle.seal.specs.Steps.{BeginsPrepared, NoMessage, Sealing, Closes};
-ghost use Rattle.seal.specs.Transcripts.{Origin, Transcript, unsealed, with_message};
+ghost use Rattle.seal.specs.Transcripts.{Origin, begun_on, Transcript, unsealed, with_message};
 ghost use Rattle.seal.specs.Runs.{AtMessage, AtTag, GivenBack, MessageAnswer, Faithful};
 
 use crate::tag::TagStage;
@@ -32,7 +32,7 @@ impl<C: Cipher> MessageStage<C> {
     // The prepared start of a record, which takes the key in: its header is the one that the key last prepared.
     pub fn start(key: Key<C>, nonce: &[u8]) -> MessageStage<C>
         ensures step { BeginsPrepared C.Block.form C.f key nonce.now result }
-        ensures run { (cipher : C) (prepared : List ℕ) → Keys C.Block.form C.f cipher prepared key → AtMessage C.Block.form C.f (record { cipher = cipher; prepared = prepared; key = key }) (unsealed nonce.now prepared) result }
+        ensures run { (cipher : C) (last : List ℕ) → Keys C.Block.form C.f cipher last key → AtMessage C.Block.form C.f (begun_on cipher last key) (unsealed nonce.now last) result }
     {
         let nonce = omac(key.cipher(), Tweak::Nonce, nonce);
         let header = key.prepared();

@@ -44,7 +44,6 @@ impl<B: Block> Chain<B> {
         }
     }
 
-    #[tactic(auto, unfolding(crate::specs::Chaining::finished, mode::specs::Strings::l, mode::specs::Strings::two_l, mode::specs::Strings::four_l))]
     pub fn finish<C: Cipher<Block = B>>(self, cipher: &C) -> B
         ensures { result ≡ finished B.form (C.f cipher.now) self }
     {

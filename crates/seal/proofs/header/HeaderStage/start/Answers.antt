@@ -9,4 +9,4 @@ pub returns : goal.returns
 unfolding nonce_block
 returns g c =
     let step : Begins g.C.Block.Block.form g.C.Cipher.f c.args.key c.args.nonce.now _ = search rules in
-    record { step = step; run = λ cipher prepared keys. begun keys c.args.nonce.now step }
+    record { step = step; run = λ cipher last keys. begun keys c.args.nonce.now step }

@@ -1,8 +1,9 @@
 -- A tag call carries the run on, accepted or refused, and what it filled is faithful after every run.
-use Rattle.std.proofs.Common.{◌<◌, length, Ok, arith}
+use Rattle.std.proofs.Common.{◌≡◌, ◌<◌, true, length, Ok, rules, arith}
 use Rattle.std.proofs.lemmas.Grind.{common_steps}
-use Rattle.std.proofs.lemmas.Bool.Decides.{nat_tests}
+use Rattle.std.proofs.lemmas.Bool.{and_parts, leb-true}
 use Rattle.std.proofs.lemmas.List.{take_more, take_more_set}
+use Rattle.wire.specs.Limits.{is_tag_len_of}
 use Rattle.block.specs.Blocks.{bytes_of}
 use Rattle.block.proofs.Bytes.{length-bytes, get_or-bytes}
 use Rattle.seal.specs.Steps.{Tagged}
@@ -16,7 +17,8 @@ loop-place-preserved g c =
     let lawful = g.met.C.Block.Block.lawful in
     let b = c.args.self.now.block in
     let i = c.loop-place.place in
-    let fits : i < form.size = grind (arith, nat_tests) in
+    let allowed : is_tag_len_of form.size (length c.args.out.now) ≡ true = search rules in
+    let fits : i < form.size = omega (arith, leb-true (length c.args.out.now) form.size (and_parts _ _ allowed).1) in
     cc (
       take_more_set c.loop-place.out i c.byte.result (omega arith),
       take_more (bytes_of form b) i 0 (omega (arith, length-bytes form lawful b)),
