@@ -36,6 +36,7 @@ impl<'a> Walk<'a> {
         ensures value { result ≡ start file.now }
         ensures run { Walks file.now [] result }
         ensures reaches { Reaches file.now }
+        ensures few { result.number + length result.rest < 2 ^ 64 }
     {
         Walk {
             rest: file,
@@ -45,7 +46,8 @@ impl<'a> Walk<'a> {
 
     // The bytes not walked yet.
     pub fn left(&self) -> usize
-        ensures { result ≡ length self.now.rest }
+        ensures value { result ≡ length self.now.rest }
+        ensures few { self.now.number + length self.now.rest < 2 ^ 64 }
     {
         self.rest.len()
     }
@@ -66,6 +68,7 @@ impl<'a> Walk<'a> {
         ensures run { (file : List ℕ) (fs : List TheHanded) → Walks file fs self.old → Walks file (collected fs (told result)) self.new }
         ensures rule { (file : List ℕ) (fs : List TheHanded) → Walks file fs self.old → Whole file fs (told result) }
         ensures stays { ((f : TheHanded) → told result ≢ handed f) → answer self.new ≡ told result }
+        ensures few { self.new.number + length self.new.rest < 2 ^ 64 }
     {
         if self.rest.is_empty() {
             return Ok(None);
