@@ -144,7 +144,6 @@ impl<'a> Last<'a> {
 pub(crate) fn last_frame(bytes: &[u8]) -> Result<Last<'_>, Cause>
     ensures { result ≡ checked bytes.now (trailer_of bytes.now) }
 {
-    let trailer = Trailer::read(bytes)?;
-    let (before, _) = bytes.split_at(bytes.len() - TRAILER_LEN);
-    Last::cut(trailer, before)
+    let (before, trailer) = bytes.split_last_chunk::<TRAILER_LEN>().ok_or(Cause::Short)?;
+    Last::cut(Trailer::read(trailer)?, before)
 }
