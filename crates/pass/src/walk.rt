@@ -3,7 +3,7 @@ ghost use Rattle.std.specs.Prelude.{◌≡◌, ℕ, ◌+◌, ◌-◌, ◌^◌, �
 ghost use Rattle.wire.specs.Faults.{cause_number};
 ghost use Rattle.pass.specs.Layout.{Behind, Refusal};
 ghost use Rattle.pass.specs.Reading.{last_of};
-ghost use Rattle.pass.specs.Walking.{Handed as TheHanded, start, handed, answer, next, Steps};
+ghost use Rattle.pass.specs.Walking.{Point, Handed as TheHanded, start, handed, answer, next, Steps};
 ghost use Rattle.pass.specs.View.{told};
 ghost use Rattle.pass.specs.Runs.{collected, Walks, Reaches, Whole};
 
@@ -20,9 +20,6 @@ pub struct Walk<'a> {
 }
 
 impl<'a> Model for Walk<'a> {
-    ghost use Rattle.std.specs.Prelude.{◌+◌, ◌^◌, ◌<◌, length};
-    ghost use Rattle.pass.specs.Walking.{Point};
-
     ghost Value = { Point };
 
     ghost view = { λ w. record { rest = w.rest.now; number = w.number } };
