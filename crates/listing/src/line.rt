@@ -15,11 +15,14 @@ impl<'a> fmt::Display for Line<'a> {
 
     fn fmt<W: fmt::Write>(&self, f: &mut fmt::Formatter<W>) -> fmt::Result {
         let Line(frame) = *self;
-        let number = frame.number();
-        let kind = u8::from(frame.kind());
-        let place = frame.place();
-        let len = frame.len();
-        write!(f, "{number} {kind} {place} {len}")
+        write!(
+            f,
+            "{} {} {} {}",
+            frame.number(),
+            u8::from(frame.kind()),
+            frame.place(),
+            frame.len()
+        )
     }
 }
 
@@ -34,8 +37,6 @@ impl fmt::Display for Stopped {
     ghost output = { λ s. Some (stopped_text s) };
 
     fn fmt<W: fmt::Write>(&self, f: &mut fmt::Formatter<W>) -> fmt::Result {
-        let number = self.fault.number();
-        let left = self.left;
-        write!(f, "fault {number} {left}")
+        write!(f, "fault {} {}", self.fault.number(), self.left)
     }
 }

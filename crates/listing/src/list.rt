@@ -1,5 +1,5 @@
 // The listing of a pass file: its frames from the end on, to the file's start or to the first fault.
-ghost use Rattle.std.specs.Prelude.{◌≡◌, ℕ, ◌+◌, ◌≤◌, List, ◌++◌, length, IfSome, IfOk, string_bytes, OnOk, nat_lt};
+ghost use Rattle.std.specs.Prelude.{◌≡◌, ℕ, ◌+◌, ◌≤◌, List, ◌++◌, length, IfOk, string_bytes, nat_lt};
 ghost use Rattle.pass.specs.Layout.{Parts, EndToEnd};
 ghost use Rattle.pass.specs.Walking.{start};
 ghost use Rattle.listing.specs.Lines.{ending_text};

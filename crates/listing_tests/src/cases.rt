@@ -11,7 +11,7 @@ struct Case {
     text: &'static str,
 }
 
-const CASES: [Case; 50] = [
+const CASES: &[Case] = &[
     // nothing, and whole files
     Case {
         name: "empty file",
@@ -329,7 +329,7 @@ const CASES: [Case; 50] = [
 #[test]
 fn listings(rt: HostRuntime) -> Result<(), Fail> {
     let heap = rt.alloc();
-    for case in &CASES {
+    for case in CASES {
         let mut input = vec![in heap; 0x55u8; case.padding]?;
         input.extend_from_slice(case.tail)?;
         let text = listing(heap, input.as_slice())?;

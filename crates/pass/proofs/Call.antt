@@ -1,13 +1,51 @@
--- Where a frame ends the rest, or a check refuses what does, the walk takes the step that it tells.
-use Rattle.std.proofs.Common.{◌≡◌, ◌+◌, ◌-◌, ◌<◌, length, Err, refl, ap, arith}
-use Rattle.std.proofs.lemmas.List.{length-append}
+-- Where nothing is left, a frame ends the rest, or a check refuses what does, the walk takes the step that it tells.
+use Rattle.std.proofs.Common.{◌≡◌, ℕ, ◌+◌, ◌-◌, ◌<◌, List, length, Ok, Err, Result, sym, refl, ap, arith}
+use Rattle.std.proofs.lemmas.List.{length-append, nil_from_length}
+use Rattle.std.proofs.lemmas.Bool.{cond-true, eq-eqb}
 use Rattle.wire.specs.Faults.{cause_number}
 use Rattle.wire.specs.declared.fault.FrameFault.{FrameFault}
 use Rattle.pass.specs.Layout.{encoded, Behind, Refusal}
 use Rattle.pass.specs.Reading.{Cut, last_of}
-use Rattle.pass.specs.Walking.{Point, Hands, Refuses}
+use Rattle.pass.specs.Walking.{Point, Handed, Told, none, handed, hand_out, answer, next, Hands, Refuses, Steps}
+use Rattle.pass.specs.Runs.{collected, Walks, called, Whole}
+use Rattle.pass.proofs.Answered.{none_answered}
 use Rattle.pass.proofs.Cuts.{refused_at}
 use Rattle.pass.proofs.RoundTrip.{no_frame}
+use Rattle.pass.proofs.Whole.{whole}
+
+-- what a call promises
+pub record Promise (w : Point) (r : Told) (v : Point) : Type 0 where
+  pub value : r ≡ answer w
+  pub after : v ≡ next w
+  pub step : Steps w r v
+  pub run : (file : List ℕ) (fs : List Handed) → Walks file fs w → Walks file (collected fs r) v
+  pub rule : (file : List ℕ) (fs : List Handed) → Walks file fs w → Whole file fs r
+  pub stays : ((f : Handed) → r ≡ handed f → ⊥) → answer v ≡ r
+
+-- where nothing is left, the walk tells none, and stays
+pub none_left : (w : Point) → length w.rest ≡ 0 → Promise w none w
+none_left w h =
+    let step : Steps w none w = (nil_from_length w.rest h, refl) in
+    record {
+      value = sym (none_answered w step.0);
+      after = sym (cond-true _ _ _ (eq-eqb _ 0 h));
+      step = step;
+      run = λ file fs run. called run none step;
+      rule = λ file fs run. whole file fs w w none run step;
+      stays = λ _. none_answered w step.0;
+    }
+
+-- what is handed out was cut off
+pub cut_off : (w : Point) (last : Result Cut FrameFault) (f : Handed)
+    → Ok f ≡ hand_out w last
+    → (cut : Cut) × (last ≡ Ok cut) × (Ok f ≡ hand_out w (Ok cut))
+cut_off w (Ok cut) f h = (cut, refl, h)
+cut_off w (Err e) f h = cc
+
+-- a fault is told where nothing was cut off
+pub not_cut : (w : Point) (last : Result Cut FrameFault) (e : FrameFault) → Err e ≡ hand_out w last → last ≡ Err e
+not_cut w (Ok cut) e h = cc
+not_cut w (Err d) e h = cc
 
 pub refuses : (w : Point) (e : FrameFault)
     → 0 < length w.rest

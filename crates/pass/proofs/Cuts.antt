@@ -1,13 +1,14 @@
 -- The parts that a trailer points back over, joined again, are the bytes that they were cut from, and have the lengths
 -- that the trailer tells.
-use Rattle.std.proofs.Common.{◌≡◌, ℕ, ◌-◌, ◌<◌, ◌≤◌, Bool, true, false, cond, leb, List, ◌++◌, length, get_or, take, drop, IfErr, Ok, Err, Result, sym, refl, ap, ◌∙◌, append_assoc, arith, MatchResult}
-use Rattle.std.proofs.lemmas.List.{length-take, length-drop, take-append-drop}
+use Rattle.std.proofs.Common.{◌≡◌, ℕ, ◌-◌, ◌<◌, ◌≤◌, Bool, true, false, cond, leb, List, [], ◌++◌, length, get_or, take, drop, IfErr, Ok, Err, Result, sym, refl, ap, ◌∙◌, append_assoc, arith, MatchResult}
+use Rattle.std.proofs.lemmas.List.{length-take, length-drop, take-append-drop, take_all, drop_all}
 use Rattle.std.proofs.lemmas.Bool.{cond-true, le-leb, leb-true, leb-false}
 use Rattle.wire.specs.declared.fault.Cause.{Cause}
 use Rattle.wire.specs.declared.fault.Cause.TheVariants.{BadLength, Overrun}
 use Rattle.wire.specs.Faults.{cause_number}
+use Rattle.wire.specs.declared.kind.Kind.TheVariants.{Idle}
 use Rattle.pass.specs.declared.trailer.Trailer.{Trailer}
-use Rattle.pass.specs.Layout.{lengths, trailer_bytes, span, within_limits, encoded, Behind, Refusal, bad_length, overrun}
+use Rattle.pass.specs.Layout.{Parts, lengths, trailer_bytes, span, within_limits, encoded, Behind, Refusal, bad_length, overrun}
 use Rattle.pass.specs.Reading.{trailer_of, Cut, parts_at, cut_at, checked, locate, last_of}
 use Rattle.pass.proofs.Trailers.{Ends, trailer_read}
 
@@ -119,3 +120,11 @@ refused_at bs = at (length bs) (checked bs (trailer_of bs))
     at : (n : ℕ) (found : Result Cut Cause) → IfErr (locate n found) (λ e. e.place ≡ n - 8)
     at n (Ok c) = tt
     at n (Err c) = refl
+
+-- an idle frame is all fill
+pub idle_parts : (t : Trailer) (ps : List ℕ)
+    → t.kind ≡ Idle
+    → within_limits t ≡ true
+    → length ps ≡ span t
+    → ◌≡◌ {A = Parts} (record { kind = Idle; nonce = []; header = []; body = ps; tag = [] }) (parts_at t ps)
+idle_parts t ps k w h = grind (arith, take_all, drop_all)

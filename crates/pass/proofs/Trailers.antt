@@ -3,7 +3,7 @@
 use Rattle.std.proofs.Common.{◌≡◌, ℕ, zero, suc, ◌+◌, ◌-◌, ◌*◌, ◌/◌, ◌%◌, ◌<◌, ◌≤◌, Bool, true, false, cond, eqb, ltb, List, [], ◌∷◌, ◌++◌, length, get_or, take, drop, Some, None, Err, Option, sym, refl, ap, ◌∙◌, arith, MatchResult}
 use lib.Arith.{digits_div, digits_mod}
 use Rattle.std.proofs.lemmas.List.{drop_all, drop_more, take-append-drop}
-use Rattle.std.proofs.lemmas.Bool.{eqb-true, eqb-false, ltb-true, ltb-false}
+use Rattle.std.proofs.lemmas.Bool.{cond-false, le-ltb, eqb-true, eqb-false, ltb-true, ltb-false}
 use Rattle.wire.specs.Kinds.{kind_number, kind_of}
 use Rattle.wire.specs.Limits.{nonce_max}
 use Rattle.wire.specs.Faults.{cause_number}
@@ -12,7 +12,7 @@ use Rattle.wire.specs.declared.kind.Kind.{Kind}
 use Rattle.wire.proofs.Listed.{found, listed}
 use Rattle.pass.specs.declared.trailer.Trailer.{Trailer}
 use Rattle.pass.specs.Layout.{back, trailer_bytes, Refusal, short, unmarked, unknown}
-use Rattle.pass.specs.Reading.{fields_of, trailer_of}
+use Rattle.pass.specs.Reading.{fields_of, trailer_in, trailer_of}
 
 -- some bytes end in this trailer
 pub record Ends (bs : List ℕ) (t : Trailer) : Type 0 where
@@ -79,3 +79,14 @@ module _ (bs : List ℕ) (small : (i : ℕ) → get_or bs i 0 < 256) where
   -- a trailer that is read is there, and else a check applies
   pub trailer_read : MatchResult (trailer_of bs) (Ends bs) (λ c. Refusal bs (cause_number c))
   trailer_read = by_checks (ltb (length bs) 8) (eqb (back bs 1) 0xA7) (kind_of (back bs 2)) refl refl refl
+
+-- the last eight bytes alone tell the trailer
+pub of_last : (bs : List ℕ) → 8 ≤ length bs → trailer_of bs ≡ trailer_in (drop (length bs - 8) bs)
+of_last bs long =
+    cond-false _ _ _ (le-ltb _ 8 long)
+    ∙ ap (λ fields. cond (eqb (back bs 1) 0xA7) fields (Err NoMark)) (same (kind_of (back bs 2)))
+    ∙ ap trailer_in (sym (last_bytes bs 8 long))
+  where
+    same : (kind : Option Kind) → fields_of bs kind ≡ fields_of (last bs 8) kind
+    same None = refl
+    same (Some k) = refl

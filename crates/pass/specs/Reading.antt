@@ -20,8 +20,12 @@ fields_of bs (Some k) =
       body = back bs 4 * 256 + back bs 3;
     })
 
+-- the trailer that the last eight bytes are
+abbrev pub trailer_in : List ℕ → Result Trailer Cause
+trailer_in bs = cond (back bs 1 == 0xA7) (fields_of bs (kind_of (back bs 2))) (Err NoMark)
+
 abbrev pub trailer_of : List ℕ → Result Trailer Cause
-trailer_of bs = cond (nat_lt (length bs) 8) (Err Short) (cond (back bs 1 == 0xA7) (fields_of bs (kind_of (back bs 2))) (Err NoMark))
+trailer_of bs = cond (nat_lt (length bs) 8) (Err Short) (trailer_in bs)
 
 -- the parts that a trailer points back over
 abbrev pub parts_at : Trailer → List ℕ → Parts

@@ -1,7 +1,7 @@
 // A frame: parts of the pass file, with the frame's number and place.
 ghost use Rattle.std.specs.Prelude.{◌≡◌, true, length};
 ghost use Rattle.pass.specs.Layout.{span, within_limits};
-ghost use Rattle.pass.specs.Reading.{trailer_of, parts_at, cut_of, checked};
+ghost use Rattle.pass.specs.Reading.{trailer_of, parts_at, Cut, cut_of, checked};
 ghost use Rattle.pass.specs.View.{parts_of};
 
 use crate::trailer::{TRAILER_LEN, Trailer};
@@ -57,6 +57,7 @@ pub struct Frame<'a> {
 }
 
 impl<'a> Frame<'a> {
+    // The fields are private, so that only this crate makes a frame.
     pub(crate) fn new(content: Content<'a>, number: usize, place: usize, len: usize) -> Frame<'a>
         ensures { result ≡ record { content = content.entry; number = number; place = place; len = len } }
     {
@@ -113,11 +114,7 @@ pub(crate) struct Last<'a> {
 }
 
 impl<'a> Model for Last<'a> {
-    ghost use Rattle.pass.specs.Reading.{Cut};
-
     ghost Value = { Cut };
-
-    ghost use Rattle.pass.specs.View.{parts_of};
 
     ghost view = { λ l. record { rest = l.rest.now; parts = parts_of l.content } };
 }
@@ -130,8 +127,10 @@ impl<'a> Last<'a> {
         if !trailer.is_within_limits() {
             return Err(Cause::BadLength);
         }
-        let span = trailer.span();
-        let rest_len = before.len().checked_sub(span).ok_or(Cause::Overrun)?;
+        let rest_len = before
+            .len()
+            .checked_sub(trailer.span())
+            .ok_or(Cause::Overrun)?;
         let (rest, parts) = before.split_at(rest_len);
         Ok(Last {
             rest,
@@ -144,7 +143,6 @@ impl<'a> Last<'a> {
 pub(crate) fn last_frame(bytes: &[u8]) -> Result<Last<'_>, Cause>
     ensures { result ≡ checked bytes.now (trailer_of bytes.now) }
 {
-    let trailer = Trailer::read(bytes)?;
-    let (before, _) = bytes.split_at(bytes.len() - TRAILER_LEN);
-    Last::cut(trailer, before)
+    let (before, trailer) = bytes.split_last_chunk::<TRAILER_LEN>().ok_or(Cause::Short)?;
+    Last::cut(Trailer::read(trailer)?, before)
 }

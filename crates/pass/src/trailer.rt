@@ -1,7 +1,7 @@
 // The eight bytes that end a frame: they point back over its parts.
-ghost use Rattle.std.specs.Prelude.{◌≡◌, ◌≤◌, length, OnOk};
+ghost use Rattle.std.specs.Prelude.{◌≡◌};
 ghost use Rattle.pass.specs.Layout.{span, within_limits};
-ghost use Rattle.pass.specs.Reading.{trailer_of};
+ghost use Rattle.pass.specs.Reading.{trailer_in};
 
 use wire::fault::Cause;
 use wire::kind::Kind;
@@ -22,13 +22,11 @@ pub(crate) struct Trailer {
 }
 
 impl Trailer {
-    // The trailer that ends `bytes`.
-    pub(crate) fn read(bytes: &[u8]) -> Result<Trailer, Cause>
-        ensures value { result ≡ trailer_of bytes.now }
-        ensures long { OnOk result (8 ≤ length bytes.now) }
+    // The trailer that these bytes are, if they end in the mark and tell a kind.
+    pub(crate) fn read(bytes: &[u8; TRAILER_LEN]) -> Result<Trailer, Cause>
+        ensures { result ≡ trailer_in bytes.now }
     {
         let [
-            ..,
             nonce,
             tag,
             header_high,
@@ -37,19 +35,16 @@ impl Trailer {
             body_low,
             kind,
             mark,
-        ] = bytes
-        else {
-            return Err(Cause::Short);
-        };
-        if *mark != MARK {
+        ] = *bytes;
+        if mark != MARK {
             return Err(Cause::NoMark);
         }
         Ok(Trailer {
-            kind: Kind::try_from(*kind)?,
-            nonce: *nonce,
-            tag: *tag,
-            header: u16::from_be_bytes([*header_high, *header_low]),
-            body: u16::from_be_bytes([*body_high, *body_low]),
+            kind: Kind::try_from(kind)?,
+            nonce,
+            tag,
+            header: u16::from_be_bytes([header_high, header_low]),
+            body: u16::from_be_bytes([body_high, body_low]),
         })
     }
 

@@ -3,7 +3,7 @@ ghost use Rattle.std.specs.Prelude.{◌≡◌, ℕ, ◌+◌, ◌-◌, ◌^◌, �
 ghost use Rattle.wire.specs.Faults.{cause_number};
 ghost use Rattle.pass.specs.Layout.{Behind, Refusal};
 ghost use Rattle.pass.specs.Reading.{last_of};
-ghost use Rattle.pass.specs.Walking.{Handed as TheHanded, start, handed, answer, next, Steps};
+ghost use Rattle.pass.specs.Walking.{Point, Handed as TheHanded, start, handed, answer, next, Steps};
 ghost use Rattle.pass.specs.View.{told};
 ghost use Rattle.pass.specs.Runs.{collected, Walks, Reaches, Whole};
 
@@ -20,9 +20,6 @@ pub struct Walk<'a> {
 }
 
 impl<'a> Model for Walk<'a> {
-    ghost use Rattle.std.specs.Prelude.{◌+◌, ◌^◌, ◌<◌, length};
-    ghost use Rattle.pass.specs.Walking.{Point};
-
     ghost Value = { Point };
 
     ghost view = { λ w. record { rest = w.rest.now; number = w.number } };
@@ -36,6 +33,7 @@ impl<'a> Walk<'a> {
         ensures value { result ≡ start file.now }
         ensures run { Walks file.now [] result }
         ensures reaches { Reaches file.now }
+        ensures few { result.number + length result.rest < 2 ^ 64 }
     {
         Walk {
             rest: file,
@@ -45,7 +43,8 @@ impl<'a> Walk<'a> {
 
     // The bytes not walked yet.
     pub fn left(&self) -> usize
-        ensures { result ≡ length self.now.rest }
+        ensures value { result ≡ length self.now.rest }
+        ensures few { self.now.number + length self.now.rest < 2 ^ 64 }
     {
         self.rest.len()
     }
@@ -66,6 +65,7 @@ impl<'a> Walk<'a> {
         ensures run { (file : List ℕ) (fs : List TheHanded) → Walks file fs self.old → Walks file (collected fs (told result)) self.new }
         ensures rule { (file : List ℕ) (fs : List TheHanded) → Walks file fs self.old → Whole file fs (told result) }
         ensures stays { ((f : TheHanded) → told result ≢ handed f) → answer self.new ≡ told result }
+        ensures few { self.new.number + length self.new.rest < 2 ^ 64 }
     {
         if self.rest.is_empty() {
             return Ok(None);

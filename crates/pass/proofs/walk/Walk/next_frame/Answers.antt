@@ -1,21 +1,18 @@
 -- What ends the rest decides the step, and the step decides what is said of the whole file.
-use Rattle.std.proofs.Common.{◌≡◌, [], sym, refl, arith}
-use Rattle.std.proofs.lemmas.List.{nil_from_length}
+use Rattle.std.proofs.Common.{sym, arith}
 use Rattle.std.proofs.lemmas.Bool.{eqb-true, eqb-false}
 use Rattle.std.proofs.lemmas.Result.{err_from_is_err_and}
 use Rattle.wire.proofs.Carried.{placed_ok, placed_err}
 use Rattle.pass.specs.View.{told}
-use Rattle.pass.specs.Walking.{none, handed}
+use Rattle.pass.specs.Walking.{handed}
 use Rattle.pass.specs.Runs.{called}
-use Rattle.pass.proofs.Call.{refuses, hands}
+use Rattle.pass.proofs.Call.{none_left, refuses, hands}
 use Rattle.pass.proofs.Whole.{whole}
 use Rattle.pass.proofs.walk.Walk.next_frame.Goals as goal
 
 pub returns-then-is_empty-clause-rule : goal.returns-then-is_empty-clause-rule
-returns-then-is_empty-clause-rule c file fs run =
-    let w = c.args.self.now in
-    let empty : w.rest ≡ [] = rw (← c.self.view_is) (nil_from_length _ (eqb-true _ _ (sym c.if-is_empty.ensures))) in
-    whole file fs w w none run (empty, refl)
+returns-then-is_empty-clause-rule c =
+    (none_left c.args.self.now (rw (← c.self.view_is) (eqb-true _ _ (sym c.if-is_empty.ensures)))).rule
 
 pub returns-in_err-rest-clause-step : goal.returns-in_err-rest-clause-step
 returns-in_err-rest-clause-step c =
