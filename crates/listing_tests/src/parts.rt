@@ -14,9 +14,7 @@ const FILE: [u8; 25] = [
 #[test]
 fn sealed_parts(rt: HostRuntime) -> Result<(), Fail> {
     let mut walk = Walk::new(&FILE);
-    let Ok(Some(frame)) = walk.next_frame() else {
-        return Err(Fail::new("no frame"));
-    };
+    let frame = walk.next_frame()?.ok_or("no frame")?;
     let content = Content::Sealed {
         suite: Suite::Bench,
         nonce: &[0xAA],
@@ -32,9 +30,7 @@ fn sealed_parts(rt: HostRuntime) -> Result<(), Fail> {
 #[test]
 fn idle_fill(rt: HostRuntime) -> Result<(), Fail> {
     let mut walk = Walk::new(&FILE[0..10]);
-    let Ok(Some(frame)) = walk.next_frame() else {
-        return Err(Fail::new("no frame"));
-    };
+    let frame = walk.next_frame()?.ok_or("no frame")?;
     let fill = &[0x55, 0x56];
     assert_eq!(rt; frame.content(), Content::Idle { fill });
     assert_eq!(rt; walk.next_frame(), Ok(None), "none at the file's start");
