@@ -1,5 +1,5 @@
 -- What a call of the walk answers, and where the walk stands after it. Assumes nothing.
-use Rattle.std.specs.Prelude.{◌≡◌, ℕ, ◌+◌, ◌-◌, ◌<◌, cond, List, [], length, Ok, Err, Result, ◌==◌}
+use Rattle.std.specs.Prelude.{◌≡◌, ℕ, ◌+◌, ◌-◌, ◌^◌, ◌<◌, cond, List, [], length, Ok, Err, Result, ◌==◌}
 use Rattle.wire.specs.Faults.{cause_number}
 use Rattle.wire.specs.declared.fault.FrameFault.{FrameFault}
 use Rattle.pass.specs.Layout.{Parts, encoded, Behind, Refusal}
@@ -12,6 +12,10 @@ pub record Point : Type 0 where
 
 abbrev pub start : List ℕ → Point
 start file = record { rest = file; number = 0 }
+
+-- the frames handed out and the bytes that are left are together below 2 ^ 64, so the number never overflows
+abbrev pub IsFew : Point → Type 0
+IsFew w = w.number + length w.rest < 2 ^ 64
 
 -- a frame as it is handed out: the place is that of its first byte, and the length has the trailer in it
 pub record Handed : Type 0 where

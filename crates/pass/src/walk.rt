@@ -1,9 +1,9 @@
 // The walk of a pass file, frame by frame from its end.
-ghost use Rattle.std.specs.Prelude.{◌≡◌, ℕ, ◌+◌, ◌-◌, ◌^◌, ◌<◌, ◌≤◌, List, [], length, IfOk, MatchResult, ◌≢◌};
+ghost use Rattle.std.specs.Prelude.{◌≡◌, ℕ, ◌+◌, ◌-◌, ◌≤◌, List, [], length, IfOk, MatchResult, ◌≢◌};
 ghost use Rattle.wire.specs.Faults.{cause_number};
 ghost use Rattle.pass.specs.Layout.{Behind, Refusal};
 ghost use Rattle.pass.specs.Reading.{last_of};
-ghost use Rattle.pass.specs.Walking.{Point, Handed as TheHanded, start, handed, answer, next, Steps};
+ghost use Rattle.pass.specs.Walking.{Point, IsFew, Handed as TheHanded, start, handed, answer, next, Steps};
 ghost use Rattle.pass.specs.View.{told};
 ghost use Rattle.pass.specs.Runs.{collected, Walks, Reaches, Whole};
 
@@ -25,7 +25,7 @@ impl<'a> Model for Walk<'a> {
     ghost view = { λ w. record { rest = w.rest.now; number = w.number } };
 
     // The sum never grows, so the number cannot overflow.
-    ghost invariant = { λ w. w.number + length w.rest.now < 2 ^ 64 };
+    ghost invariant = { λ w. IsFew (record { rest = w.rest.now; number = w.number }) };
 }
 
 impl<'a> Walk<'a> {
@@ -33,7 +33,7 @@ impl<'a> Walk<'a> {
         ensures value { result ≡ start file.now }
         ensures run { Walks file.now [] result }
         ensures reaches { Reaches file.now }
-        ensures few { result.number + length result.rest < 2 ^ 64 }
+        ensures few { IsFew result }
     {
         Walk {
             rest: file,
@@ -44,7 +44,7 @@ impl<'a> Walk<'a> {
     // The bytes not walked yet.
     pub fn left(&self) -> usize
         ensures value { result ≡ length self.now.rest }
-        ensures few { self.now.number + length self.now.rest < 2 ^ 64 }
+        ensures few { IsFew self.now }
     {
         self.rest.len()
     }
@@ -52,7 +52,7 @@ impl<'a> Walk<'a> {
     // The frames handed out so far.
     pub fn count(&self) -> usize
         ensures value { result ≡ self.now.number }
-        ensures few { self.now.number + length self.now.rest < 2 ^ 64 }
+        ensures few { IsFew self.now }
     {
         self.number
     }
@@ -65,7 +65,7 @@ impl<'a> Walk<'a> {
         ensures run { (file : List ℕ) (fs : List TheHanded) → Walks file fs self.old → Walks file (collected fs (told result)) self.new }
         ensures rule { (file : List ℕ) (fs : List TheHanded) → Walks file fs self.old → Whole file fs (told result) }
         ensures stays { ((f : TheHanded) → told result ≢ handed f) → answer self.new ≡ told result }
-        ensures few { self.new.number + length self.new.rest < 2 ^ 64 }
+        ensures few { IsFew self.new }
     {
         if self.rest.is_empty() {
             return Ok(None);
