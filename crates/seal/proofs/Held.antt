@@ -32,6 +32,7 @@ use Rattle.seal.specs.declared.message.MessageStage.{MessageStage}
 use Rattle.seal.specs.declared.tag.TagStage.{TagStage}
 
 module _ {C B : Type 0} (form : Form B) (lawful : Lawful form) (F : C → B → B) (origin : Origin C B) where
+  -- F, of the cipher that the record was begun on
   abbrev G : B → B
   G = F origin.cipher
 
