@@ -17,6 +17,11 @@ start file = record { rest = file; number = 0 }
 abbrev pub IsFew : Point → Type 0
 IsFew w = w.number + length w.rest < 2 ^ 64
 
+-- what is known of every walk: where it stands, and that its number does not overflow
+pub record Standing : Type 0 where
+  pub point : Point
+  pub few : IsFew point
+
 -- a frame as it is handed out: the place is that of its first byte, and the length has the trailer in it
 pub record Handed : Type 0 where
   pub parts : Parts

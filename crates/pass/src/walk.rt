@@ -3,7 +3,7 @@ ghost use Rattle.std.specs.Prelude.{◌≡◌, ℕ, ◌+◌, ◌-◌, ◌≤◌,
 ghost use Rattle.wire.specs.Faults.{cause_number};
 ghost use Rattle.pass.specs.Layout.{Behind, Refusal};
 ghost use Rattle.pass.specs.Reading.{last_of};
-ghost use Rattle.pass.specs.Walking.{Point, IsFew, Handed as TheHanded, start, handed, answer, next, Steps};
+ghost use Rattle.pass.specs.Walking.{Standing, IsFew, Handed as TheHanded, start, handed, answer, next, Steps};
 ghost use Rattle.pass.specs.View.{told};
 ghost use Rattle.pass.specs.Runs.{collected, Walks, Reaches, Whole};
 
@@ -17,23 +17,22 @@ use wire::fault::{FrameFault, PassFault, at};
 pub struct Walk<'a> {
     rest: &'a [u8],
     number: usize,
+    // The sum never grows, so the number cannot overflow.
+    ghost few: { IsFew (record { rest = rest.now; number = number }) },
 }
 
 impl<'a> Model for Walk<'a> {
-    ghost Value = { Point };
+    ghost Value = { Standing };
 
-    ghost view = { λ w. record { rest = w.rest.now; number = w.number } };
-
-    // The sum never grows, so the number cannot overflow.
-    ghost invariant = { λ w. IsFew (record { rest = w.rest.now; number = w.number }) };
+    ghost view = { λ w. record { point = record { rest = w.rest.now; number = w.number }; few = w.few } };
 }
 
 impl<'a> Walk<'a> {
     pub fn new(file: &'a [u8]) -> Walk<'a>
-        ensures value { result ≡ start file.now }
-        ensures run { Walks file.now [] result }
+        ensures value { result.point ≡ start file.now }
+        ensures run { Walks file.now [] result.point }
         ensures reaches { Reaches file.now }
-        ensures few { IsFew result }
+        ensures few { IsFew result.point }
     {
         Walk {
             rest: file,
@@ -43,29 +42,29 @@ impl<'a> Walk<'a> {
 
     // The bytes not walked yet.
     pub fn left(&self) -> usize
-        ensures value { result ≡ length self.now.rest }
-        ensures few { IsFew self.now }
+        ensures value { result ≡ length self.now.point.rest }
+        ensures few { IsFew self.now.point }
     {
         self.rest.len()
     }
 
     // The frames handed out so far.
     pub fn count(&self) -> usize
-        ensures value { result ≡ self.now.number }
-        ensures few { IsFew self.now }
+        ensures value { result ≡ self.now.point.number }
+        ensures few { IsFew self.now.point }
     {
         self.number
     }
 
     // The frame that ends the bytes that are left, or none if none are left. A refusal leaves the walk as it is.
     pub fn next_frame(&mut self) -> Result<Option<Frame<'a>>, PassFault>
-        ensures value { told result ≡ answer self.old }
-        ensures after { self.new ≡ next self.old }
-        ensures step { Steps self.old (told result) self.new }
-        ensures run { (file : List ℕ) (fs : List TheHanded) → Walks file fs self.old → Walks file (collected fs (told result)) self.new }
-        ensures rule { (file : List ℕ) (fs : List TheHanded) → Walks file fs self.old → Whole file fs (told result) }
-        ensures stays { ((f : TheHanded) → told result ≢ handed f) → answer self.new ≡ told result }
-        ensures few { IsFew self.new }
+        ensures value { told result ≡ answer self.old.point }
+        ensures after { self.new.point ≡ next self.old.point }
+        ensures step { Steps self.old.point (told result) self.new.point }
+        ensures run { (file : List ℕ) (fs : List TheHanded) → Walks file fs self.old.point → Walks file (collected fs (told result)) self.new.point }
+        ensures rule { (file : List ℕ) (fs : List TheHanded) → Walks file fs self.old.point → Whole file fs (told result) }
+        ensures stays { ((f : TheHanded) → told result ≢ handed f) → answer self.new.point ≡ told result }
+        ensures few { IsFew self.new.point }
     {
         if self.rest.is_empty() {
             return Ok(None);

@@ -4,7 +4,7 @@ use Rattle.listing.proofs.Walked.{Sofar}
 use Rattle.listing.proofs.list.list_frames.Given as goal
 
 abbrev pub invariant-walking : goal.invariant-walking
-invariant-walking l = Sofar (string_bytes l.initial.text) l.file (string_bytes l.text) l.walk
+invariant-walking l = Sofar (string_bytes l.initial.text) l.file (string_bytes l.text) l.walk.point
 
 abbrev pub decreases-walking : goal.decreases-walking
-decreases-walking l = length l.walk.rest
+decreases-walking l = length l.walk.point.rest

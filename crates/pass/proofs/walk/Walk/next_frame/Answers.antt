@@ -1,5 +1,5 @@
 -- What ends the rest decides the step, and the step decides what is said of the whole file.
-use Rattle.std.proofs.Common.{sym, arith}
+use Rattle.std.proofs.Common.{sym, arith, rules}
 use Rattle.std.proofs.lemmas.Bool.{eqb-true, eqb-false}
 use Rattle.std.proofs.lemmas.Result.{err_from_is_err_and}
 use Rattle.wire.proofs.Carried.{placed_ok, placed_err}
@@ -12,7 +12,7 @@ use Rattle.pass.proofs.walk.Walk.next_frame.Goals as goal
 
 pub returns-then-is_empty-clause-rule : goal.returns-then-is_empty-clause-rule
 returns-then-is_empty-clause-rule c =
-    (none_left c.args.self.now (rw (← c.self.view_is) (eqb-true _ _ (sym c.if-is_empty.ensures)))).rule
+    (none_left c.args.self.now.point (rw (← c.self.view_is) (eqb-true _ _ (sym c.if-is_empty.ensures)))).rule
 
 pub returns-in_err-rest-clause-step : goal.returns-in_err-rest-clause-step
 returns-in_err-rest-clause-step c =
@@ -25,12 +25,13 @@ returns-in_err-rest-clause-step c =
 
 pub returns-in_err-rest-clause-rule : goal.returns-in_err-rest-clause-rule
 returns-in_err-rest-clause-rule c file fs run =
-    whole file fs c.args.self.now c.args.self.now (told c.from_residual.result) run (returns-in_err-rest-clause-step c)
+    whole file fs _ _ (told c.from_residual.result) run (returns-in_err-rest-clause-step c)
 
 pub returns-clause-step : goal.returns-clause-step
 returns-clause-step c =
     let ok = placed_ok c.located.result _ c.in_ok-rest.field-0 (sym c.in_ok-rest.ensures) in
-    rw (← c.self.view_is, c.new-frame.ensures) (hands _ _ (rw (ok, ← c.branch.view_is) at c.located.ensures.cases))
+    rw (← c.self.view_is)
+    (hands _ c.in_ok-rest.field-0 _ _ (rw ok at c.located.ensures.cases) (search rules) (search rules))
 
 pub returns-clause-run : goal.returns-clause-run
 returns-clause-run c file fs run = called run (handed _) (returns-clause-step c)
