@@ -30,6 +30,7 @@ impl<const MAX: usize> Length<MAX> {
     pub fn grow(&mut self, piece: usize) -> Option<usize>
         ensures answer { result ≡ grown_to self.old piece MAX }
         ensures after { self.new ≡ unwrap_or result self.old }
+        ensures within { self.new ≤ MAX }
     {
         self.count = grown(self.count, piece, MAX)?;
         Some(self.count)

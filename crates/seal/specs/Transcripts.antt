@@ -4,8 +4,8 @@ use Rattle.wire.specs.declared.fault.RecordFault.{RecordFault}
 use Rattle.key.specs.Headers.{joined}
 use Rattle.key.specs.declared.key.Key.{Key}
 
--- what a record was begun on: a cipher, the header last prepared, and a key to which any calls have led from a fresh one
--- of that cipher
+-- what a record was begun on: a cipher, the header last prepared, and a key. That calls led to that key from a fresh one
+-- of that cipher, the runs ask where a record begins
 pub record Origin (C B : Type 0) : Type 0 where
   pub cipher : C
   pub last : List ℕ
