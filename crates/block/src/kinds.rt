@@ -1,51 +1,48 @@
-// The two kinds of block, of 8 and of 16 bytes: one type, and one implementation for both.
-ghost use Rattle.std.specs.Prelude.{◌≡◌, ◌⊎◌, refl};
+// The two kinds of block offer what every kind does.
+ghost use Rattle.block.specs.Kinds.{form8, form16};
 ghost use Rattle.std.proofs.Common.{inl, inr};
-ghost use Rattle.block.specs.Kinds.{form_of};
-ghost use Rattle.block.specs.Same.{same};
+ghost use Rattle.std.specs.Prelude.{refl};
+ghost use Rattle.block.specs.Same.{same8, same16};
 ghost use Rattle.block.specs.Xor.{lawful_by_number};
 
 use crate::block::Block;
-use crate::block_of::BlockOf;
+pub use crate::block8::Block8;
+pub use crate::block16::Block16;
 
-pub type Block8 = BlockOf<8>;
+impl Block for Block8 {
+    ghost form = { form8 };
 
-pub type Block16 = BlockOf<16>;
-
-// How many bytes a block may have: 8 or 16.
-pub trait BlockSize<const N: usize> {
-    ghost allowed: { (N ≡ 8) ⊎ (N ≡ 16) };
-}
-
-impl BlockSize<8> for BlockOf<8> {
-    ghost allowed = { inl refl };
-}
-
-impl BlockSize<16> for BlockOf<16> {
-    ghost allowed = { inr refl };
-}
-
-impl<const N: usize> Block for BlockOf<N>
-where
-    BlockOf<N>: BlockSize<N>,
-{
-    ghost form = { form_of N };
-
-    ghost lawful = { lawful_by_number (form_of N) same (λ a. a.fits) (λ x. refl) ⟦<BlockOf<N> as BlockSize<N>>⟧.allowed };
+    ghost lawful = { lawful_by_number form8 same8 (λ a. a.fits) (λ x. refl) (inl refl) };
 
     fn width() -> usize {
-        N
+        8
+    }
+
+    fn number(self) -> u128 {
+        u128::from(self.number)
+    }
+
+    fn from_number(number: u128) -> Block8 {
+        Block8 {
+            number: (number % (1 << 64)) as u64,
+        }
+    }
+}
+
+impl Block for Block16 {
+    ghost form = { form16 };
+
+    ghost lawful = { lawful_by_number form16 same16 (λ a. a.fits) (λ x. refl) (inr refl) };
+
+    fn width() -> usize {
+        16
     }
 
     fn number(self) -> u128 {
         self.number
     }
 
-    // The bits that a block has no room for are shifted out.
-    fn from_number(number: u128) -> BlockOf<N> {
-        let spare = 128 - 8 * N;
-        BlockOf {
-            number: number << spare >> spare,
-        }
+    fn from_number(number: u128) -> Block16 {
+        Block16 { number }
     }
 }

@@ -2,7 +2,8 @@
 #![tactic(auto)]
 
 pub mod block;
-pub mod block_of;
+pub mod block16;
+pub mod block8;
 pub mod kinds;
 pub mod laws;
 mod place;

@@ -1,6 +1,6 @@
 // The bench cipher, for tests on the ground: a block is xored with the key. It keeps nothing secret.
 ghost use Rattle.std.specs.Prelude.{◌≡◌, replicate};
-ghost use Rattle.block.specs.Kinds.{form_of};
+ghost use Rattle.block.specs.Kinds.{form8};
 ghost use Rattle.wire.specs.declared.kind.Suite.TheVariants.{Bench as BenchSuite};
 ghost use Rattle.cipher.specs.Bench.{bench_f, bench_under};
 ghost use Rattle.std.proofs.Common.{rules};
@@ -8,7 +8,7 @@ ghost use Rattle.std.proofs.Common.{rules};
 use crate::cipher::Cipher;
 use crate::load::Keyed;
 use block::block::Block;
-use block::kinds::Block8;
+use block::block8::Block8;
 use wire::kind::Suite;
 
 #[derive(Drop)]
@@ -35,7 +35,7 @@ impl Cipher for Bench {
 
     fn encrypt(&self, block: Block8) -> Block8
         ensures value { result ≡ bench_f self.now block }
-        ensures width { 8 ≡ (form_of 8).size }
+        ensures width { 8 ≡ form8.size }
     {
         block.xor(self.key)
     }

@@ -4,8 +4,8 @@ use Rattle.std.specs.Borrow.{Bor}
 use Rattle.wire.specs.declared.fault.RecordFault.{RecordFault}
 use Rattle.block.specs.Form.{Form}
 use Rattle.block.specs.Blocks.{doubled, following, bytes_of, block_of}
-use Rattle.block.specs.Kinds.{form_of}
-use Rattle.block.specs.declared.block_of.BlockOf.{BlockOf}
+use Rattle.block.specs.Kinds.{form8, form16}
+use Rattle.block.specs.declared.block8.Block8.{Block8}
 use Rattle.cipher.specs.Bench.{bench_f, bench_under}
 use Rattle.mode.specs.Strings.{cmac, omac, ciphertext, tag_block_of, opening}
 use Rattle.mode.specs.declared.worked.BlockRow.{BlockRow}
@@ -16,7 +16,7 @@ use Rattle.mode.specs.declared.worked.Worked.{Worked}
 use Rattle.mode.specs.declared.worked.Worked.TheVariants.{Doubled8, Doubled16, Next8, Cmac, Omac, Sealed, Opened, Sealed16}
 
 -- the bench cipher under the key 00 00 00 00 00 00 00 01
-abbrev pub bench : BlockOf 8 → BlockOf 8
+abbrev pub bench : Block8 → Block8
 bench = bench_f (bench_under (0 ∷ 0 ∷ 0 ∷ 0 ∷ 0 ∷ 0 ∷ 0 ∷ 1 ∷ []))
 
 -- a row tells of an answer its message, or its fault
@@ -47,14 +47,14 @@ module _ {B : Type 0} (form : Form B) where
       Tells (opening form F row.nonce.now row.header.now row.ciphertext.now row.tag.now) row.answer
 
 abbrev pub Holds : Worked → Type 0
-Holds (Doubled8 row) = Makes (form_of 8) (doubled (form_of 8)) row
-Holds (Doubled16 row) = Makes (form_of 16) (doubled (form_of 16)) row
-Holds (Next8 row) = Makes (form_of 8) (following (form_of 8)) row
-Holds (Cmac row) = Macs (form_of 8) (cmac (form_of 8) bench) row
-Holds (Omac t row) = Macs (form_of 8) (omac (form_of 8) bench t) row
-Holds (Sealed row) = Seals (form_of 8) bench row
-Holds (Opened row) = Answers (form_of 8) bench row
-Holds (Sealed16 row) = Seals (form_of 16) (following (form_of 16)) row
+Holds (Doubled8 row) = Makes form8 (doubled form8) row
+Holds (Doubled16 row) = Makes form16 (doubled form16) row
+Holds (Next8 row) = Makes form8 (following form8) row
+Holds (Cmac row) = Macs form8 (cmac form8 bench) row
+Holds (Omac t row) = Macs form8 (omac form8 bench t) row
+Holds (Sealed row) = Seals form8 bench row
+Holds (Opened row) = Answers form8 bench row
+Holds (Sealed16 row) = Seals form16 (following form16) row
 
 abbrev pub AllHold : List Worked → Type 0
 AllHold [] = Unit {0}

@@ -1,12 +1,12 @@
 // A cipher for tests, with blocks and a key of 16 bytes: F(b) is b xor the key, and one more. Its kind is that of AES-128,
 // the one kind that has blocks of 16 bytes.
 ghost use Rattle.block.specs.Blocks.{xored, following, block_of};
-ghost use Rattle.block.specs.Kinds.{form_of};
+ghost use Rattle.block.specs.Kinds.{form16};
 ghost use Rattle.wire.specs.declared.kind.Suite.TheVariants.{Aes128};
 ghost use Rattle.std.proofs.Common.{rules};
 
 use block::block::Block;
-use block::kinds::Block16;
+use block::block16::Block16;
 use cipher::cipher::Cipher;
 use cipher::load::Keyed;
 use wire::kind::Suite;
@@ -27,7 +27,7 @@ impl Cipher for Wide {
 
     ghost N = { 16 };
 
-    ghost f = { λ c b. following (form_of 16) (xored (form_of 16) b c.key) };
+    ghost f = { λ c b. following form16 (xored form16 b c.key) };
 
     ghost named = { Prim.search rules };
 
@@ -43,7 +43,7 @@ impl Keyed for Wide {
 
     ghost KEY_LEN = { 16 };
 
-    ghost under = { λ k. record { key = block_of (form_of 16) k } };
+    ghost under = { λ k. record { key = block_of form16 k } };
 
     fn fresh() -> Wide {
         Wide {
