@@ -1,4 +1,6 @@
 // What the walk hands out, part by part, and what it refuses, value by value.
+ghost use Rattle.std.specs.Prelude.{◌+◌, ◌^◌, ◌<◌, length};
+
 use pass::frame::Content;
 use pass::walk::Walk;
 use std::test::*;
@@ -11,9 +13,15 @@ const FILE: [u8; 25] = [
     0xAA, 0xBB, 0xFF, 1, 2, 3, 4, 1, 4, 0, 1, 0, 1, 3, 0xA7, // bench
 ];
 
+// A caller that holds a walk, and calls nothing, knows that its number cannot overflow.
+fn few_are_left(walk: &Walk<'_>)
+    ensures { walk.now.point.number + length walk.now.point.rest < 2 ^ 64 }
+{}
+
 #[test]
 fn sealed_parts(rt: HostRuntime) -> Result<(), Fail> {
     let mut walk = Walk::new(&FILE);
+    few_are_left(&walk);
     let frame = walk.next_frame()?.ok_or("no frame")?;
     let content = Content::Sealed {
         suite: Suite::Bench,

@@ -3,4 +3,5 @@ pub mod Cuts
 pub mod RoundTrip
 pub mod Whole
 pub mod Call
+pub mod Same
 pub mod Answered
